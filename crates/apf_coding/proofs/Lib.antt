@@ -1,0 +1,9 @@
+pub mod Numbers
+pub mod Fields
+pub mod Spelling
+pub mod Appends
+pub mod Runs
+pub mod Sequence
+pub mod Running
+pub mod Jumping
+pub mod Widths
