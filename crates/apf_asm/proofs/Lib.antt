@@ -1,0 +1,9 @@
+pub mod Lengths
+pub mod Law
+pub mod Whole
+pub mod Here
+pub mod LabelPlaces
+pub mod Aims
+pub mod Spaced
+pub mod Emitted
+pub mod Answering

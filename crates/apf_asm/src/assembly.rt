@@ -1,0 +1,61 @@
+//! The assembler.
+
+ghost use Rattle.std.specs.Prelude.{◌≡◌, ◌≤◌, ◌⊎◌, ℕ, length, All, IfOk, IfErr, OnOk, Some, None};
+ghost use Rattle.apf_asm.specs.Items.{IsItemForm, IsLabelForm};
+ghost use Rattle.apf_asm.specs.Layout.{layout};
+ghost use Rattle.apf_asm.specs.Refusals.{refusal, answer, ExactlyWhere, IsOverlong};
+ghost use Rattle.apf_asm.specs.Correct.{RunsAs};
+
+use crate::emitting::{Code, emit};
+use crate::item::{AsmError, Item};
+use crate::labels::find_aims;
+use crate::spacing::space;
+use std::alloc::Global;
+
+/// Assembles items, with the one answer that they have where there is memory.
+fn assemble_items(alloc: Global, items: &[Item]) -> Result<Code, AsmError>
+    requires few { length items.now ≤ 1048576 }
+    requires forms { All IsItemForm items.now }
+    ensures bytes { IfOk result (λ code. code.bytes ≡ (layout items.now).bytes) }
+    ensures places { IfOk result (λ code. code.places ≡ (layout items.now).places) }
+    ensures widths { IfOk result (λ code. code.widths ≡ (layout items.now).widths) }
+    ensures ok { OnOk result (answer items.now ≡ None) }
+    ensures err { IfErr result (λ e. (e ≡ AsmError.OutOfMemory) ⊎ (answer items.now ≡ Some e)) }
+{
+    let aims = find_aims(alloc, items)?;
+    let spacing = space(alloc, items, &aims)?;
+    if spacing.bytes > 65535 {
+        return Err(AsmError::TooLong {
+            bytes: spacing.bytes,
+        });
+    }
+    let code = emit(alloc, items, &spacing.widths, &spacing.offsets)?;
+    Ok(code)
+}
+
+/// The code of items. A jump has the least width that holds its offset and its second immediate or count.
+///
+/// There are at most 1,048,576 items, each well formed. `Twice`, `Unknown` and `Backward` name the first item that is
+/// refused. `TooLong` comes where none is, and the code would have more than 65,535 bytes.
+pub fn assemble(alloc: Global, items: &[Item]) -> Result<Code, AsmError>
+    requires few { length items.now ≤ 1048576 }
+    requires forms { All IsItemForm items.now }
+    // The code is the one layout of the items.
+    ensures bytes { IfOk result (λ code. code.bytes ≡ (layout items.now).bytes) }
+    ensures places { IfOk result (λ code. code.places ≡ (layout items.now).places) }
+    ensures widths { IfOk result (λ code. code.widths ≡ (layout items.now).widths) }
+    // In label form its bytes run as the items flow.
+    ensures runs { IfOk result (λ code. IsLabelForm items.now → RunsAs items.now code.bytes code.places) }
+
+    // Each refusal comes exactly where it stands first, but for want of memory.
+    ensures twice { (item label : ℕ) →
+        ExactlyWhere (refusal items.now ≡ Some (AsmError.Twice item label)) result (AsmError.Twice item label) }
+    ensures unknown { (item label : ℕ) →
+        ExactlyWhere (refusal items.now ≡ Some (AsmError.Unknown item label)) result (AsmError.Unknown item label) }
+    ensures backward { (item label : ℕ) →
+        ExactlyWhere (refusal items.now ≡ Some (AsmError.Backward item label)) result (AsmError.Backward item label) }
+    ensures too_long { (bytes : ℕ) → ExactlyWhere (IsOverlong items.now bytes) result (AsmError.TooLong bytes) }
+    ensures ok { OnOk result (answer items.now ≡ None) }
+{
+    assemble_items(alloc, items)
+}

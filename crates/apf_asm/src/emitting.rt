@@ -1,0 +1,110 @@
+//! The bytes, places and widths of items.
+
+ghost use Rattle.std.specs.Prelude.{◌≡◌, ◌≤◌, ◌<◌, ◌^◌, ◌++◌, ◌∷◌, [], length, All, IfOk, OnOk};
+ghost use Rattle.apf_asm.specs.Items.{IsItemForm};
+ghost use Rattle.apf_asm.specs.Layout.{piece, IsFit, item_widths, item_offsets, own_width, layout};
+ghost use Rattle.apf_asm.specs.Spacing.{code_length};
+
+use crate::item::Item;
+use apf_base::{List, OutOfMemory};
+use apf_coding::{Instr, encode};
+use std::alloc::Global;
+
+/// What items are assembled to.
+#[derive(Debug, Drop)]
+pub struct Code {
+    /// At most 65,535 bytes.
+    pub bytes: List<u8>,
+    /// For each item the place of its first byte, or where that would be.
+    pub places: List<u32>,
+    /// For each jump its width, in the order of the items.
+    pub widths: List<u8>,
+}
+
+/// Appends an item's bytes.
+fn append_piece(
+    alloc: Global,
+    item: &Item,
+    width: u8,
+    offset: u32,
+    bytes: &mut List<u8>,
+) -> Result<(), OutOfMemory>
+    requires { IsFit item.now width offset }
+    ensures { OnOk result (bytes.new ≡ bytes.old ++ piece item.now width offset) }
+{
+    match item {
+        Item::Fixed(f) => {
+            let instr = Instr {
+                op: f.op,
+                reg: f.reg,
+                width: f.width,
+                imm: f.imm,
+                second: f.second,
+                bytes: f.bytes.as_slice(),
+            };
+            encode(alloc, &instr, bytes)
+        }
+        Item::Jump(j) => {
+            let instr = Instr {
+                op: j.op,
+                reg: j.reg,
+                width,
+                imm: offset,
+                second: j.second,
+                bytes: j.bytes.as_slice(),
+            };
+            encode(alloc, &instr, bytes)
+        }
+        Item::Label(_) => Ok(()),
+        Item::Byte(b) => bytes.push(*b),
+    }
+}
+
+/// Appends an item at the place where the bytes end.
+fn append(
+    alloc: Global,
+    item: &Item,
+    width: u8,
+    offset: u32,
+    code: &mut Code,
+) -> Result<(), OutOfMemory>
+    requires fit { IsFit item.now width offset }
+    requires short { length code.old.bytes < 2 ^ 32 }
+    ensures bytes { OnOk result (code.new.bytes ≡ code.old.bytes ++ piece item.now width offset) }
+    ensures places { OnOk result (code.new.places ≡ code.old.places ++ length code.old.bytes ∷ []) }
+    ensures widths { OnOk result (code.new.widths ≡ code.old.widths ++ own_width item.now width) }
+{
+    code.places.push(code.bytes.len() as u32)?;
+    append_piece(alloc, item, width, offset, &mut code.bytes)?;
+    if let Item::Jump(_) = item {
+        code.widths.push(width)?;
+    }
+    Ok(())
+}
+
+/// The code of items with the widths and offsets of their layout.
+pub(crate) fn emit(
+    alloc: Global,
+    items: &[Item],
+    widths: &[u8],
+    offsets: &[u64],
+) -> Result<Code, OutOfMemory>
+    requires forms { All IsItemForm items.now }
+    requires few { length items.now ≤ 1048576 }
+    requires widths { widths.now ≡ item_widths items.now }
+    requires offsets { offsets.now ≡ item_offsets items.now }
+    requires short { code_length items.now ≤ 65535 }
+    ensures bytes { IfOk result (λ code. code.bytes ≡ (layout items.now).bytes) }
+    ensures places { IfOk result (λ code. code.places ≡ (layout items.now).places) }
+    ensures widths { IfOk result (λ code. code.widths ≡ (layout items.now).widths) }
+{
+    let mut code = Code {
+        bytes: List::new(alloc),
+        places: List::new(alloc),
+        widths: List::new(alloc),
+    };
+    for (number, item) in items.iter().enumerate() {
+        append(alloc, item, widths[number], offsets[number] as u32, &mut code)?;
+    }
+    Ok(code)
+}

@@ -1,0 +1,17 @@
+//! The assembler of the packet filter machine: instructions, jumps and labels as items, and the bytes that they come
+//! to. Each jump has the least width that holds its offset, and the bytes run as the items flow. What can't be laid
+//! out, a label that is unknown, stands twice or lies behind its jump, or a code of more than 65,535 bytes, is refused.
+#![tactic(auto)]
+
+mod assembly;
+mod emitting;
+mod item;
+mod labels;
+mod sharing;
+mod sizes;
+mod spacing;
+
+pub use assembly::assemble;
+pub use emitting::Code;
+pub use item::{AsmError, Fixed, Item, Jump, Target};
+pub use sharing::types_are_shared;

@@ -1,0 +1,99 @@
+//! The widths and offsets of jumps.
+
+ghost use Rattle.std.specs.Prelude.{◌≡◌, ◌^◌, ◌<◌, ◌≤◌, length, All, IfOk, None};
+ghost use Rattle.apf_asm.specs.Items.{IsItemForm, IsJumpForm};
+ghost use Rattle.apf_asm.specs.Layout.{width_for, item_width, item_widths, item_offsets};
+ghost use Rattle.apf_asm.specs.Labels.{aims_from};
+ghost use Rattle.apf_asm.specs.Refusals.{refusal};
+ghost use Rattle.apf_asm.specs.Spacing.{code_length, apart};
+
+use crate::item::{Item, Jump, Target};
+use crate::sizes::size;
+use apf_base::OutOfMemory;
+use apf_coding::{Op, least_unsigned};
+use std::alloc::Global;
+
+/// For each item its width and its offset, both 0 where it is no jump, and the number of bytes of all.
+#[derive(Drop)]
+pub(crate) struct Spacing {
+    pub(crate) widths: Vec<u8>,
+    pub(crate) offsets: Vec<u64>,
+    pub(crate) bytes: u64,
+}
+
+/// The least width of an offset, and of what a jump has beside it.
+fn width_for(jump: &Jump, offset: u64) -> u8
+    requires { IsJumpForm jump.now }
+    ensures { result ≡ width_for jump.now offset }
+{
+    let beside = match jump.op {
+        Op::Jnebs => jump.bytes.len() as u32,
+        _ => jump.second,
+    };
+    // From 65,536 on every offset needs four bytes, also one that no u32 holds.
+    let offset = offset.min(65536) as u32;
+    least_unsigned(offset).max(least_unsigned(beside))
+}
+
+/// The width of an item with this offset.
+fn item_width(item: &Item, offset: u64) -> u8
+    requires { IsItemForm item.now }
+    ensures { result ≡ item_width item.now offset }
+{
+    match item {
+        Item::Jump(jump) => width_for(jump, offset),
+        Item::Fixed(_) | Item::Label(_) | Item::Byte(_) => 0,
+    }
+}
+
+/// The offset of an item, where the end is `here` bytes from the place behind it and `there` bytes from its target.
+fn item_offset(item: &Item, here: u64, there: u64) -> u64
+    requires order { there ≤ here }
+    requires small { here < 2 ^ 40 }
+    ensures { result ≡ apart item.now here there }
+{
+    match item {
+        Item::Jump(jump) => match jump.to {
+            Target::Label(_) | Target::Pass => here - there,
+            Target::Drop => here - there + 1,
+        },
+        Item::Fixed(_) | Item::Label(_) | Item::Byte(_) => 0,
+    }
+}
+
+/// The one layout of items that are refused for no cause. An offset depends on later items alone, so one pass from the
+/// last item to the first finds what narrowing from four bytes, again and again, comes to.
+pub(crate) fn space(
+    alloc: Global,
+    items: &[Item],
+    aims: &[usize],
+) -> Result<Spacing, OutOfMemory>
+    requires forms { All IsItemForm items.now }
+    requires few { length items.now ≤ 1048576 }
+    requires labels { refusal items.now ≡ None }
+    requires aims { aims.now ≡ aims_from 0 items.now }
+    ensures widths { IfOk result (λ spacing. spacing.widths.items ≡ item_widths items.now) }
+    ensures offsets { IfOk result (λ spacing. spacing.offsets.items ≡ item_offsets items.now) }
+    ensures bytes { IfOk result (λ spacing. spacing.bytes ≡ code_length items.now) }
+{
+    let mut widths = vec![in alloc; 0; items.len()]?;
+    let mut offsets = vec![in alloc; 0; items.len()]?;
+    // How far the end is from each item, and from behind the last.
+    let mut distances = vec![in alloc; 0; items.len() + 1]?;
+    let mut number = items.len();
+    while number > 0 {
+        let here = distances[number];
+        number -= 1;
+        let item = &items[number];
+        let offset = item_offset(item, here, distances[aims[number]]);
+        let width = item_width(item, offset);
+        offsets[number] = offset;
+        widths[number] = width;
+        distances[number] = here + size(item, width);
+    }
+    Ok(Spacing {
+        widths,
+        offsets,
+        bytes: distances[0],
+    })
+}
