@@ -11,7 +11,7 @@ use Rattle.apf_asm.specs.declared.item.Target.TheVariants as targets
 use Rattle.apf_asm.specs.declared.item.AsmError.{AsmError}
 use Rattle.apf_asm.specs.declared.item.AsmError.TheVariants.{Twice, Unknown, Backward}
 use Rattle.apf_asm.specs.Items.{marks}
-use Rattle.apf_asm.specs.Refusals.{stands, target_refused, refused, first, refused_from}
+use Rattle.apf_asm.specs.Refusals.{stands, target_refused, refused, first, refused_from, refused_at}
 use Rattle.apf_asm.specs.Labels.{label_at, label_found, target_index, item_index, aims_from, label_aim, jump_aim, target_aim, item_aim}
 use Rattle.apf_asm.proofs.Here.{drop_here, take_here, split_here}
 use Rattle.apf_asm.proofs.LabelPlaces.{found-early, found-behind, found-never, label_at-lt}
@@ -77,9 +77,6 @@ item_aim-same f g i end (items.Fixed x) same = refl
 item_aim-same f g i end (items.Byte b) same = refl
 
 -- ---- the same by the item's number
-
-abbrev pub refused_at : List Item → ℕ → Item → Option AsmError
-refused_at xs i x = refused i (take i xs) (drop (i + 1) xs) x
 
 abbrev aim_at : List Item → ℕ → Item → ℕ
 aim_at xs i x = i + 1 + item_index (drop (i + 1) xs) x

@@ -7,3 +7,5 @@ pub mod Aims
 pub mod Spaced
 pub mod Emitted
 pub mod Answering
+pub mod Narrowing
+pub mod FirstRefusal

@@ -12,7 +12,7 @@ use Rattle.apf_asm.specs.declared.item.Target.TheVariants as targets
 use Rattle.apf_asm.specs.declared.item.AsmError.{AsmError}
 use Rattle.apf_asm.specs.Items.{marks, IsItemForm}
 use Rattle.apf_asm.specs.Layout.{size, total, total_before, offset, item_offset, item_width, item_widths, item_offsets, beside}
-use Rattle.apf_asm.specs.Refusals.{stands, refused, first, refused_from, refusal}
+use Rattle.apf_asm.specs.Refusals.{stands, refused, first, refused_from, refused_at, refusal}
 use Rattle.apf_asm.specs.Labels.{label_at, target_index, item_index, aims_from}
 use Rattle.apf_asm.specs.Spacing.{code_length, behind_end, apart}
 use Rattle.apf_asm.proofs.Law.{Leads}
@@ -20,7 +20,7 @@ use Rattle.apf_asm.proofs.Lengths.{size-small, total-small}
 use Rattle.apf_asm.proofs.Whole.{first_none, target_leads}
 use Rattle.apf_asm.proofs.Here.{drop_here, item_there}
 use Rattle.apf_asm.proofs.LabelPlaces.{label_at-lt}
-use Rattle.apf_asm.proofs.Aims.{refused_at, refused_more}
+use Rattle.apf_asm.proofs.Aims.{refused_more}
 
 -- ---- from an item to its target
 

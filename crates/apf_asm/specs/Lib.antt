@@ -6,3 +6,4 @@ pub mod Correct
 pub mod Labels
 pub mod Sizing
 pub mod Spacing
+pub mod Narrowing

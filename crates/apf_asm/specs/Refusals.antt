@@ -1,5 +1,5 @@
 -- Which items are refused, and for what.
-use Rattle.std.specs.Prelude.{◌≡◌, ℕ, ◌+◌, ◌<◌, ◌≤◌, ◌⊎◌, ◌||◌, nat_lt, Bool, false, if◌then◌else◌, List, [], ◌∷◌, ◌++◌, length, Option, Some, None, Result, Err, IsErrAnd}
+use Rattle.std.specs.Prelude.{◌≡◌, ℕ, ◌+◌, ◌<◌, ◌≤◌, ◌⊎◌, ◌||◌, nat_lt, Bool, false, if◌then◌else◌, List, [], ◌∷◌, ◌++◌, length, take, drop, slice_get, Option, Some, None, Result, Err, IsErrAnd}
 use Rattle.apf_asm.specs.declared.item.Item.{Item}
 use Rattle.apf_asm.specs.declared.item.Item.TheVariants as items
 use Rattle.apf_asm.specs.declared.item.Target.{Target}
@@ -44,6 +44,20 @@ refused_from number before (item ∷ rest) = first (refused number before rest i
 -- what is wrong with the first item that is refused
 abbrev pub refusal : List Item → Option AsmError
 refusal items = refused_from 0 [] items
+
+-- ---- the first refusal in words
+
+-- what is wrong with the item that stands at a number
+abbrev pub refused_at : List Item → ℕ → Item → Option AsmError
+refused_at items number item = refused number (take number items) (drop (number + 1) items) item
+
+-- the error is that of an item before which none is refused
+pub record IsFirstRefusal (items : List Item) (error : AsmError) : Type 0 where
+  pub number : ℕ
+  pub item : Item
+  pub here : slice_get items number ≡ Some item
+  pub wrong : refused_at items number item ≡ Some error
+  pub before : (k : ℕ) (earlier : Item) → k < number → slice_get items k ≡ Some earlier → refused_at items k earlier ≡ None
 
 -- ---- all that is refused
 
