@@ -132,8 +132,8 @@ refused_where xs r e other label ok err = record {
 pub overlong_where : (xs : List Item) (r : Result Code AsmError) (n : ℕ) → OnOk r (answer xs ≡ None) → IfErr r (λ x. (x ≡ OutOfMemory) ⊎ (answer xs ≡ Some x)) → ExactlyWhere (IsOverlong xs n) r (TooLong n)
 overlong_where xs r n ok err = record {
   only = λ h.
-    let p = long_cases (refusal xs) (length (layout xs).bytes) n _ (of_label 0 [] xs) refl (only_where xs r (TooLong n) (λ e. cc) err h) in
-    record { labels = p.0; length_is = p.1; long = omega arith };
+      let p = long_cases (refusal xs) (length (layout xs).bytes) n _ (of_label 0 [] xs) refl (only_where xs r (TooLong n) (λ e. cc) err h) in
+      record { labels = p.0; length_is = p.1; long = omega arith };
   always = λ h. always_where xs r (TooLong n) ok err (answer_long xs n h.labels (h.length_is ∙ length-code xs (item_widths xs)) h.long);
 }
 

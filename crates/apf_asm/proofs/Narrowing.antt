@@ -109,8 +109,8 @@ head x xs s (suc n) =
       is = ap (narrowed (x ∷ xs)) h.is;
       above = omega (arith, h.above);
       done = λ lt.
-        let same : needed ≡ final x xs = ap (λ (ws : List ℕ). item_width x (item_offset x xs ws)) (s.done n (omega arith)) in
-        omega (arith, h.above);
+          let same : needed ≡ final x xs = ap (λ (ws : List ℕ). item_width x (item_offset x xs ws)) (s.done n (omega arith)) in
+          omega (arith, h.above);
     }
 
 settles : (xs : List Item) → Settles xs
@@ -120,6 +120,7 @@ settles [] = record { above = none; done = λ n le. is_nil n }
     is_nil : (n : ℕ) → rounds n [] ≡ []
     is_nil zero = refl
     is_nil (suc n) = refl
+
     none : (n : ℕ) → AtLeast (rounds n []) []
     none zero = tt
     none (suc n) = tt

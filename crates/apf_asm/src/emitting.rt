@@ -104,7 +104,13 @@ pub(crate) fn emit(
         widths: List::new(alloc),
     };
     for (number, item) in items.iter().enumerate() {
-        append(alloc, item, widths[number], offsets[number] as u32, &mut code)?;
+        append(
+            alloc,
+            item,
+            widths[number],
+            offsets[number] as u32,
+            &mut code,
+        )?;
     }
     Ok(code)
 }

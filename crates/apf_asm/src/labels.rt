@@ -46,11 +46,7 @@ fn label_aim(
 }
 
 /// A jump goes to a label that stands behind it.
-fn jump_aim(
-    first: &BTreeMap<u32, usize>,
-    number: usize,
-    label: u32,
-) -> Result<usize, AsmError>
+fn jump_aim(first: &BTreeMap<u32, usize>, number: usize, label: u32) -> Result<usize, AsmError>
     requires { number < 1048576 }
     ensures { result ≡ jump_aim number label (tree.get nat_cmp first.now label) }
 {

@@ -11,6 +11,8 @@ mod laws;
 mod sharing;
 mod sizes;
 mod spacing;
+#[cfg(test)]
+mod tests;
 
 pub use assembly::assemble;
 pub use emitting::Code;

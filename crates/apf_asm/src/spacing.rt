@@ -63,11 +63,7 @@ fn item_offset(item: &Item, here: u64, there: u64) -> u64
 
 /// The one layout of items that are refused for no cause. An offset depends on later items alone, so one pass from the
 /// last item to the first finds what narrowing from four bytes, again and again, comes to.
-pub(crate) fn space(
-    alloc: Global,
-    items: &[Item],
-    aims: &[usize],
-) -> Result<Spacing, OutOfMemory>
+pub(crate) fn space(alloc: Global, items: &[Item], aims: &[usize]) -> Result<Spacing, OutOfMemory>
     requires forms { All IsItemForm items.now }
     requires few { length items.now ≤ 1048576 }
     requires labels { refusal items.now ≡ None }
