@@ -216,11 +216,11 @@ pub record Turn (xs : List Item) (i : ℕ) (x : Item) (here there : ℕ) : Type 
   pub offset_is : item_offset x (drop (i + 1) xs) (item_widths (drop (i + 1) xs)) ≡ apart x here there
 
 pub turn : (xs : List Item) (aims : List ℕ) (i j : ℕ) (x : Item) (ws os ds : List ℕ) (here there : ℕ) → All IsItemForm xs → length xs ≤ 1048576 → refusal xs ≡ None → aims ≡ aims_from 0 xs → j ≡ i + 1 → Spaced xs j ws os ds → x ≡ get_or xs i x
-    → here ≡ get_or ds j here → there ≡ get_or ds (get_or aims i 0) there → Turn xs i x here there
+    → here ≡ get_or ds (i + 1) here → there ≡ get_or ds (get_or aims i 0) there → Turn xs i x here there
 turn xs aims i j x ws os ds here there forms few ok all next s is read aimed =
     let g = goes xs aims i x ok all (omega (arith, s.inside)) is in
     let k : ℕ = get_or aims i 0 in
-    let a : here ≡ code_length (drop (i + 1) xs) = get_or_read ds j here (omega (arith, s.inside, s.distances_long)) read 0 ∙ s.distances j (omega arith) s.inside ∙ ap (λ (n : ℕ). code_length (drop n xs)) next in
+    let a : here ≡ code_length (drop (i + 1) xs) = get_or_read ds (i + 1) here (omega (arith, s.inside, s.distances_long)) read 0 ∙ s.distances (i + 1) (omega arith) (omega (arith, s.inside)) in
     let b : there ≡ code_length (drop k xs) = get_or_read ds k there (omega (arith, g.inside, s.distances_long)) aimed 0 ∙ s.distances k (omega (arith, g.later)) g.inside in
     record {
       here_is = a;
