@@ -2,7 +2,8 @@
 
 ghost use Rattle.std.specs.Prelude.{◌≡◌, ◌^◌, ◌<◌, ◌≤◌, length, All, IfOk, None};
 ghost use Rattle.apf_asm.specs.Items.{IsItemForm, IsJumpForm};
-ghost use Rattle.apf_asm.specs.Layout.{width_for, item_width, item_widths, item_offsets};
+ghost use Rattle.apf_coding.specs.Words.{least_unsigned};
+ghost use Rattle.apf_asm.specs.Layout.{beside, width_for, item_width, item_widths, item_offsets};
 ghost use Rattle.apf_asm.specs.Labels.{aims_from};
 ghost use Rattle.apf_asm.specs.Refusals.{refusal};
 ghost use Rattle.apf_asm.specs.Spacing.{code_length, apart};
@@ -21,18 +22,31 @@ pub(crate) struct Spacing {
     pub(crate) bytes: u64,
 }
 
+/// What a jump's width has to hold beside its offset: the count of its bytes, or its second immediate.
+fn beside(jump: &Jump) -> u32
+    requires { IsJumpForm jump.now }
+    ensures { result ≡ beside jump.now }
+{
+    match jump.op {
+        Op::Jnebs => jump.bytes.len() as u32,
+        _ => jump.second,
+    }
+}
+
+/// The least width of an offset.
+fn offset_width(offset: u64) -> u8
+    ensures { result ≡ least_unsigned offset }
+{
+    // From 65,536 on every offset needs four bytes, also one that no u32 holds.
+    least_unsigned(offset.min(65536) as u32)
+}
+
 /// The least width of an offset, and of what a jump has beside it.
 fn width_for(jump: &Jump, offset: u64) -> u8
     requires { IsJumpForm jump.now }
     ensures { result ≡ width_for jump.now offset }
 {
-    let beside = match jump.op {
-        Op::Jnebs => jump.bytes.len() as u32,
-        _ => jump.second,
-    };
-    // From 65,536 on every offset needs four bytes, also one that no u32 holds.
-    let offset = offset.min(65536) as u32;
-    least_unsigned(offset).max(least_unsigned(beside))
+    offset_width(offset).max(least_unsigned(beside(jump)))
 }
 
 /// The width of an item with this offset.

@@ -1,12 +1,11 @@
 -- A jump's width and offset decide nothing but where it goes, and nothing else jumps.
-use Rattle.std.proofs.Common.{◌≡◌, ℕ, zero, suc, ◌+◌, ◌-◌, ◌<◌, ◌≤◌, Bool, true, false, cond, eqb, ltb, List, [], ◌∷◌, ◌++◌, length, drop, Option, Some, None, refl, sym, ap, subst, ◌∙◌, arith}
-use Rattle.std.specs.Prelude.{not, ◌||◌, ◌&&◌, ◌==◌, nat_lt, nat_eq, bit_and}
+use Rattle.std.proofs.Common.{◌≡◌, ℕ, ◌+◌, Bool, true, false, cond, List, length, drop, Option, Some, None, refl}
+use Rattle.std.specs.Prelude.{not, ◌||◌, ◌==◌, nat_lt, nat_eq, bit_and}
 use Rattle.std.specs.List.{starts_with}
 use Rattle.apf_coding.specs.declared.instruction.Op.{Op}
 use Rattle.apf_coding.specs.declared.instruction.Op.TheVariants.{Ldb, Ldh, Ldw, Ldbx, Ldhx, Ldwx, Add, Mul, Div, And, Or, Sh, Li, Jmp, Jeq, Jne, Jgt, Jlt, Jset, Jnebs, Ext, Lddw, Stdw}
 use Rattle.apf_coding.specs.declared.machine.FaultKind.{FaultKind}
 use Rattle.apf_coding.specs.declared.machine.FaultKind.TheVariants.{Compare, Frame}
-use Rattle.apf_coding.specs.Words.{word}
 use Rattle.apf_coding.specs.Jumps.{is_jump}
 use Rattle.apf_coding.specs.Instruction.{Instruction}
 use Rattle.apf_coding.specs.Meaning.{State, Meaning, Next, Jump, Fault, meaning, meaning_of, load, loaded, frame_number, compare_bytes, extended, load_data, store_data, jumps_if, compared}

@@ -1,9 +1,10 @@
 pub mod Numbers
+pub mod Widths
 pub mod Fields
 pub mod Spelling
 pub mod Appends
 pub mod Runs
 pub mod Sequence
+pub mod Lengths
 pub mod Running
 pub mod Jumping
-pub mod Widths

@@ -6,3 +6,4 @@ pub mod Run
 pub mod Writing
 pub mod Sequence
 pub mod Jumps
+pub mod Names

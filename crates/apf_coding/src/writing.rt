@@ -1,7 +1,7 @@
-//! Instructions as bytes.
+//! Instructions into bytes, and the widths of numbers.
 
-ghost use Rattle.std.specs.Prelude.{◌≡◌, ◌<◌, ◌^◌, ◌++◌, ◌+◌, ◌*◌, [], ◌∷◌, length, OnOk, OnErr, ℤ};
-ghost use Rattle.apf_coding.specs.Words.{big_endian, least_unsigned, least_signed};
+ghost use Rattle.std.specs.Prelude.{◌≡◌, ◌≤◌, ◌++◌, ℕ, OnOk, OnErr};
+ghost use Rattle.apf_coding.specs.Words.{big_endian, Holds, HoldsSigned, least_unsigned, least_signed};
 ghost use Rattle.apf_coding.specs.Instruction.{IsWidth, IsWellFormed, view, spelling, first_byte, size_of, second_of, counted_of};
 ghost use Rattle.apf_coding.specs.Writing.{Extends};
 
@@ -12,7 +12,7 @@ use std::alloc::Global;
 /// Appends the big-endian bytes of a number.
 fn append_number(out: &mut List<u8>, width: u8, n: u32) -> Result<(), OutOfMemory>
     requires width { IsWidth width }
-    requires fits { n < 256 ^ width }
+    requires fits { Holds width n }
     ensures ok { OnOk result (out.new ≡ out.old ++ big_endian width n) }
     ensures err { OnErr result (Extends out.old out.new) }
 {
@@ -70,7 +70,8 @@ fn append(out: &mut List<u8>, i: &Instr<'_>) -> Result<(), OutOfMemory>
     append_counted(out, i)
 }
 
-/// Appends the one spelling of an instruction. An `Err` changes nothing.
+/// Appends the one spelling of a well-formed instruction. Where there is no memory for it, `out`
+/// stays as it was.
 pub fn encode(_alloc: Global, i: &Instr<'_>, out: &mut List<u8>) -> Result<(), OutOfMemory>
     requires { IsWellFormed (view i.now) }
     ensures ok { OnOk result (out.new ≡ out.old ++ spelling (view i.now)) }
@@ -84,9 +85,12 @@ pub fn encode(_alloc: Global, i: &Instr<'_>, out: &mut List<u8>) -> Result<(), O
     result
 }
 
-/// The least width of an unsigned number.
+/// The least width of an unsigned number, in bytes: 0 for 0, 1 up to 255, 2 up to 65535, else 4.
 pub fn least_unsigned(v: u32) -> u8
-    ensures { result ≡ least_unsigned v }
+    ensures exact { result ≡ least_unsigned v }
+    ensures width { IsWidth result }
+    ensures holds { Holds result v }
+    ensures least { (width : ℕ) → IsWidth width → Holds width v → result ≤ width }
 {
     match v {
         0 => 0,
@@ -96,9 +100,13 @@ pub fn least_unsigned(v: u32) -> u8
     }
 }
 
-/// The least width of a signed number.
+/// The least width of a signed number in two's complement, in bytes: 0 for 0, 1 for -128 to 127,
+/// 2 for -32768 to 32767, else 4.
 pub fn least_signed(v: i32) -> u8
-    ensures { result ≡ least_signed v }
+    ensures exact { result ≡ least_signed v }
+    ensures width { IsWidth result }
+    ensures holds { HoldsSigned result v }
+    ensures least { (width : ℕ) → IsWidth width → HoldsSigned width v → result ≤ width }
 {
     match v {
         0 => 0,
