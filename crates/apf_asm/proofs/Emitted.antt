@@ -6,7 +6,7 @@ use Rattle.std.proofs.lemmas.List.Elements.{All-get_or}
 use Rattle.apf_asm.specs.declared.item.Item.{Item}
 use Rattle.apf_asm.specs.declared.item.Item.TheVariants as items
 use Rattle.apf_asm.specs.Items.{IsItemForm}
-use Rattle.apf_asm.specs.Layout.{piece, size, IsFit, total, offset, item_offset, item_width, item_widths, item_offsets, code, places, own_width, jump_widths, layout}
+use Rattle.apf_asm.specs.Layout.{piece, size, IsFit, total, item_offset, item_width, item_widths, item_offsets, code, places, own_width, jump_widths, layout}
 use Rattle.apf_asm.specs.Spacing.{code_length}
 use Rattle.apf_asm.proofs.Here.{drop_here}
 use Rattle.apf_asm.proofs.Lengths.{length-piece, length-code}

@@ -1,21 +1,19 @@
 -- Sizes, and how they sum to the code's length.
-use Rattle.std.proofs.Common.{◌≡◌, ℕ, zero, suc, ◌+◌, ◌-◌, ◌<◌, ◌≤◌, ◌^◌, Bool, true, false, cond, List, [], ◌∷◌, ◌++◌, length, refl, sym, ap, subst, ◌∙◌, arith}
+use Rattle.std.proofs.Common.{◌≡◌, ℕ, suc, ◌+◌, ◌<◌, ◌≤◌, Bool, true, false, cond, List, [], ◌∷◌, ◌++◌, length, refl, sym, ap, ◌∙◌, arith}
 use Rattle.std.specs.Prelude.{◌*◌, All}
-use Rattle.std.proofs.Common.{ap₂, inl, inr, drop, get_or, set}
-use Rattle.std.proofs.lemmas.Bool.{cases_eq}
+use Rattle.std.proofs.Common.{ap₂, inl, inr, drop, get_or}
 use Rattle.apf_asm.specs.declared.item.Fixed.{Fixed}
-use Rattle.std.proofs.lemmas.List.{length-append, length-drop, drop_more, drop_all, get_or-set_same, get_or-set_other, get_or_read}
-use Rattle.std.proofs.lemmas.List.Elements.{All-head, All-tail, All-drop, All-get_or}
+use Rattle.std.proofs.lemmas.List.{length-append, drop_more, drop_all}
+use Rattle.std.proofs.lemmas.List.Elements.{All-head, All-tail}
 use Rattle.apf_coding.specs.Words.{big_endian}
 use Rattle.apf_coding.specs.Instruction.{Instruction, spelling, second_of, counted_of, has_second, is_counted, IsWidth}
 use Rattle.apf_coding.proofs.Numbers.{length-big_endian}
 use Rattle.apf_asm.specs.declared.item.Item.{Item}
 use Rattle.apf_asm.specs.declared.item.Item.TheVariants as items
 use Rattle.apf_asm.specs.declared.item.Jump.{Jump}
-use Rattle.apf_asm.specs.declared.item.Target.{Target}
 use Rattle.apf_asm.specs.Items.{fixed_instruction, jump_instruction, marks, IsItemForm}
 use Rattle.apf_asm.specs.Sizing.{tail_size}
-use Rattle.apf_asm.specs.Layout.{piece, size, total, total_before, offset, item_offset, code, places}
+use Rattle.apf_asm.specs.Layout.{piece, size, total, total_before, item_offset, code}
 
 -- a spelling's length
 pub length-spelling : (i : Instruction) → length (spelling i) ≡ suc (i.width + (length (second_of i) + length (counted_of i)))

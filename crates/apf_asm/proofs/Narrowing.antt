@@ -1,16 +1,15 @@
 -- Narrowing comes to the layout's widths, and the code is never longer than with wide jumps.
-use Rattle.std.proofs.Common.{◌≡◌, ℕ, zero, suc, ◌+◌, ◌<◌, ◌≤◌, Bool, true, false, cond, List, [], ◌∷◌, length, map, refl, sym, ap, ap₂, subst, ◌∙◌, arith}
-use Rattle.std.specs.Prelude.{max, min, sum_by}
+use Rattle.std.proofs.Common.{◌≡◌, ℕ, zero, suc, ◌+◌, ◌<◌, ◌≤◌, Bool, true, false, cond, List, [], ◌∷◌, length, refl, sym, ap, ap₂, subst, ◌∙◌, arith}
+use Rattle.std.specs.Prelude.{min, sum_by}
 use Rattle.std.proofs.lemmas.List.Sums.{sum_by-cons}
 use Rattle.apf_coding.specs.Instruction.{has_second, is_counted}
-use Rattle.apf_coding.specs.Words.{least_unsigned}
 use Rattle.apf_coding.proofs.Widths.{least-mono}
 use Rattle.apf_asm.specs.declared.item.Item.{Item}
 use Rattle.apf_asm.specs.declared.item.Item.TheVariants as items
 use Rattle.apf_asm.specs.declared.item.Target.{Target}
 use Rattle.apf_asm.specs.declared.item.Target.TheVariants as targets
 use Rattle.apf_asm.specs.Items.{jump_instruction, marks}
-use Rattle.apf_asm.specs.Layout.{size, total, total_before, offset, item_offset, width_for, beside, item_width, item_widths, layout, wide_size, wide_length}
+use Rattle.apf_asm.specs.Layout.{size, total, total_before, offset, item_offset, item_width, item_widths, layout, wide_size, wide_length}
 use Rattle.apf_asm.specs.Narrowing.{wide_width, narrowed, rounds}
 use Rattle.apf_asm.proofs.Lengths.{size-spelling, length-code}
 use Rattle.apf_asm.proofs.Spaced.{item_width-le}

@@ -1,22 +1,21 @@
 -- The layout from the last item to the first, by how far each item is from the end.
-use Rattle.std.proofs.Common.{◌≡◌, ℕ, suc, ◌+◌, ◌-◌, ◌^◌, ◌<◌, ◌≤◌, Bool, true, false, cond, List, [], ◌∷◌, length, take, drop, get_or, set, replicate, zero, Option, Some, None, inl, inr, refl, sym, ap, ap₂, subst, ◌∙◌, arith}
-use Rattle.std.specs.Prelude.{All, ◌||◌, ◌*◌}
+use Rattle.std.proofs.Common.{◌≡◌, ℕ, suc, ◌+◌, ◌-◌, ◌^◌, ◌<◌, ◌≤◌, Bool, true, false, cond, List, [], ◌∷◌, length, take, drop, get_or, set, replicate, zero, None, inl, inr, refl, sym, ap, ap₂, subst, ◌∙◌, arith}
+use Rattle.std.specs.Prelude.{All, ◌||◌}
 use Rattle.std.proofs.lemmas.Bool.{cases_eq}
 use Rattle.std.proofs.lemmas.List.{length-drop, length-set, length-replicate, drop-drop, drop_all, drop-set, get_or_read, get_or-replicate, get_or-set_same, get_or-set_other}
-use Rattle.std.proofs.lemmas.List.Elements.{All-nil, All-cons, All-drop, All-get_or}
+use Rattle.std.proofs.lemmas.List.Elements.{All-nil, All-cons, All-drop}
 use Rattle.apf_coding.proofs.Widths.{least-le}
 use Rattle.apf_asm.specs.declared.item.Item.{Item}
 use Rattle.apf_asm.specs.declared.item.Item.TheVariants as items
 use Rattle.apf_asm.specs.declared.item.Target.{Target}
 use Rattle.apf_asm.specs.declared.item.Target.TheVariants as targets
-use Rattle.apf_asm.specs.declared.item.AsmError.{AsmError}
 use Rattle.apf_asm.specs.Items.{marks, IsItemForm}
 use Rattle.apf_asm.specs.Layout.{size, total, total_before, offset, item_offset, item_width, item_widths, item_offsets, beside}
-use Rattle.apf_asm.specs.Refusals.{stands, refused, first, refused_from, refused_at, refusal}
+use Rattle.apf_asm.specs.Refusals.{stands, refused, refused_from, refused_at, refusal}
 use Rattle.apf_asm.specs.Labels.{label_at, target_index, item_index, aims_from}
 use Rattle.apf_asm.specs.Spacing.{code_length, behind_end, apart}
 use Rattle.apf_asm.proofs.Law.{Leads}
-use Rattle.apf_asm.proofs.Lengths.{size-small, total-small}
+use Rattle.apf_asm.proofs.Lengths.{total-small}
 use Rattle.apf_asm.proofs.Whole.{first_none, target_leads}
 use Rattle.apf_asm.proofs.Here.{drop_here, item_there}
 use Rattle.apf_asm.proofs.LabelPlaces.{label_at-lt}
@@ -217,11 +216,11 @@ pub record Turn (xs : List Item) (i : ℕ) (x : Item) (here there : ℕ) : Type 
   pub offset_is : item_offset x (drop (i + 1) xs) (item_widths (drop (i + 1) xs)) ≡ apart x here there
 
 pub turn : (xs : List Item) (aims : List ℕ) (i j : ℕ) (x : Item) (ws os ds : List ℕ) (here there : ℕ) → All IsItemForm xs → length xs ≤ 1048576 → refusal xs ≡ None → aims ≡ aims_from 0 xs → j ≡ i + 1 → Spaced xs j ws os ds → x ≡ get_or xs i x
-    → here ≡ get_or ds j here → there ≡ get_or ds (get_or aims i 0) there → Turn xs i x here there
+    → here ≡ get_or ds (i + 1) here → there ≡ get_or ds (get_or aims i 0) there → Turn xs i x here there
 turn xs aims i j x ws os ds here there forms few ok all next s is read aimed =
     let g = goes xs aims i x ok all (omega (arith, s.inside)) is in
     let k : ℕ = get_or aims i 0 in
-    let a : here ≡ code_length (drop (i + 1) xs) = get_or_read ds j here (omega (arith, s.inside, s.distances_long)) read 0 ∙ s.distances j (omega arith) s.inside ∙ ap (λ (n : ℕ). code_length (drop n xs)) next in
+    let a : here ≡ code_length (drop (i + 1) xs) = get_or_read ds (i + 1) here (omega (arith, s.inside, s.distances_long)) read 0 ∙ s.distances (i + 1) (omega arith) (omega (arith, s.inside)) in
     let b : there ≡ code_length (drop k xs) = get_or_read ds k there (omega (arith, g.inside, s.distances_long)) aimed 0 ∙ s.distances k (omega (arith, g.later)) g.inside in
     record {
       here_is = a;
@@ -229,8 +228,3 @@ turn xs aims i j x ws os ds here there forms few ok all next s is read aimed =
       order = omega (arith, g.order);
       offset_is = g.offset_is ∙ ap₂ (apart x) (sym a) (sym b);
     }
-
-pub sum_fits : (xs : List Item) (i : ℕ) (x : Item) (here w : ℕ) → All IsItemForm xs → i < length xs → x ≡ get_or xs i x → here < 2 ^ 40 → w ≤ 4 → here + size x w < 2 ^ 64
-sum_fits xs i x here w forms lt is small le =
-    let form : IsItemForm x = subst IsItemForm (sym is) (All-get_or IsItemForm xs i x lt forms) in
-    omega (arith, size-small x w form le)

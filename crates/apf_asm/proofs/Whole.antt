@@ -1,16 +1,15 @@
 -- A list that is refused for no cause runs as it flows.
-use Rattle.std.proofs.Common.{◌≡◌, ℕ, zero, suc, ◌+◌, ◌-◌, ◌<◌, ◌≤◌, ◌^◌, Bool, true, false, cond, ltb, List, [], ◌∷◌, ◌++◌, length, Option, Some, None, refl, sym, ap, subst, ◌∙◌, arith, inl, inr}
+use Rattle.std.proofs.Common.{◌≡◌, ℕ, ◌+◌, ◌<◌, ◌≤◌, ◌^◌, Bool, true, false, cond, ltb, List, [], ◌∷◌, ◌++◌, length, Option, Some, None, refl, sym, ap, ◌∙◌, arith}
 use Rattle.std.specs.Prelude.{All}
 use Rattle.std.proofs.lemmas.Bool.{lt-ltb}
 use Rattle.std.proofs.lemmas.List.Elements.{All-head, All-tail}
-use Rattle.apf_coding.specs.Jumps.{is_jump}
 use Rattle.std.proofs.lemmas.Bool.{false≢true}
 use Rattle.apf_coding.specs.declared.instruction.Op.{Op}
 use Rattle.apf_coding.specs.declared.instruction.Op.TheVariants.{Jnebs}
 use Rattle.apf_coding.specs.Words.{least_unsigned}
 use Rattle.apf_coding.proofs.Widths.{wider, least-width, max-width}
-use Rattle.apf_coding.specs.Instruction.{Instruction, spelling, IsWellFormed, IsWidth, is_counted, has_second}
-use Rattle.apf_coding.specs.Run.{Run, run, run_from, ended, first_state}
+use Rattle.apf_coding.specs.Instruction.{IsWellFormed, IsWidth, is_counted, has_second}
+use Rattle.apf_coding.specs.Run.{run, run_from, ended, first_state}
 use Rattle.apf_coding.specs.declared.machine.Verdict.TheVariants.{Pass}
 use Rattle.apf_coding.specs.declared.machine.Why.TheVariants as whys
 use Rattle.apf_asm.specs.declared.item.Item.{Item}
@@ -19,11 +18,10 @@ use Rattle.apf_asm.specs.declared.item.Jump.{Jump}
 use Rattle.apf_asm.specs.declared.item.AsmError.{AsmError}
 use Rattle.apf_asm.specs.declared.item.Target.{Target}
 use Rattle.apf_asm.specs.declared.item.Target.TheVariants as targets
-use Rattle.apf_asm.specs.Items.{fixed_instruction, jump_instruction, marks, IsJumpForm, IsItemForm, IsLabelled, IsLabelForm}
-use Rattle.apf_asm.specs.Flow.{flow}
-use Rattle.apf_asm.specs.Layout.{piece, size, total, total_before, offset, item_offset, code, places, beside, width_for, item_width, item_widths, layout}
+use Rattle.apf_asm.specs.Items.{jump_instruction, IsJumpForm, IsItemForm, IsLabelled, IsLabelForm}
+use Rattle.apf_asm.specs.Layout.{total, offset, item_offset, code, beside, width_for, item_width, item_widths, layout}
 use Rattle.apf_asm.specs.Refusals.{stands, target_refused, refused, first, refused_from, refusal}
-use Rattle.apf_asm.specs.Correct.{run_of, RunsAs}
+use Rattle.apf_asm.specs.Correct.{RunsAs}
 use Rattle.apf_asm.proofs.Lengths.{length-code, before-le}
 use Rattle.apf_asm.proofs.Law.{Leads, IsGood, AllGood, all_run}
 

@@ -1,5 +1,5 @@
 -- The one layout of items: the bytes, places and widths.
-use Rattle.std.specs.Prelude.{ℕ, zero, suc, ◌+◌, if◌then◌else◌, max, Bool, true, false, List, [], ◌∷◌, ◌++◌, length, sum_by}
+use Rattle.std.specs.Prelude.{ℕ, ◌+◌, if◌then◌else◌, max, List, [], ◌∷◌, ◌++◌, length, sum_by}
 use Rattle.apf_coding.specs.Words.{least_unsigned}
 use Rattle.apf_coding.specs.Instruction.{IsWellFormed, spelling, is_counted}
 use Rattle.apf_asm.specs.declared.item.Item.{Item}

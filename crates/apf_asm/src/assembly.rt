@@ -33,10 +33,15 @@ fn assemble_items(alloc: Global, items: &[Item]) -> Result<Code, AsmError>
     Ok(code)
 }
 
-/// The code of items. A jump has the least width that holds its offset and its second immediate or count.
+/// The code of items, at most 1,048,576 of them, each well formed with at most 65,535 bytes.
 ///
-/// There are at most 1,048,576 items, each well formed. `Twice`, `Unknown` and `Backward` name the first item that is
-/// refused. `TooLong` comes where none is, and the code would have more than 65,535 bytes.
+/// A jump has the least width that holds its offset and its second immediate or count, which is what jumps of four
+/// bytes come to when they are narrowed until nothing changes. Offsets depend on later items alone, so one pass from
+/// the last item to the first finds them all. Where no item is a byte and no fixed item jumps, the code runs over every
+/// frame as the items flow.
+///
+/// `Twice`, `Unknown` and `Backward` name the first item that is refused. `TooLong` comes where none is and the code
+/// would have more than 65,535 bytes.
 pub fn assemble(alloc: Global, items: &[Item]) -> Result<Code, AsmError>
     requires few { length items.now ≤ 1048576 }
     requires forms { All IsItemForm items.now }

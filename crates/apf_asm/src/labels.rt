@@ -1,6 +1,6 @@
 //! Labels, and the items to which jumps go.
 
-ghost use Rattle.std.specs.Prelude.{◌≡◌, ◌≤◌, ◌<◌, ℕ, length, None, Some, IfOk, IfErr, ◌⊎◌};
+ghost use Rattle.std.specs.Prelude.{◌≡◌, ◌≤◌, ◌<◌, ℕ, length, None, Some, IfOk, IfErr, OnOk, ◌⊎◌};
 ghost use Rattle.std.specs.Ordering.{nat_cmp};
 ghost use Rattle.std.specs.BTreeMap as tree;
 ghost use Rattle.apf_asm.specs.Refusals.{refusal};
@@ -82,7 +82,7 @@ fn item_aim(
 /// For each item the number of the item to which it goes, or what is wrong with the first that is refused.
 pub(crate) fn find_aims(alloc: Global, items: &[Item]) -> Result<Vec<usize>, AsmError>
     requires { length items.now ≤ 1048576 }
-    ensures ok { IfOk result (λ aims. refusal items.now ≡ None) }
+    ensures ok { OnOk result (refusal items.now ≡ None) }
     ensures aims { IfOk result (λ aims. aims.items ≡ aims_from 0 items.now) }
     ensures err { IfErr result (λ e. (e ≡ AsmError.OutOfMemory) ⊎ (refusal items.now ≡ Some e)) }
 {

@@ -1,6 +1,6 @@
 //! The assembler of the packet filter machine: instructions, jumps and labels as items, and the bytes that they come
-//! to. Each jump has the least width that holds its offset, and the bytes run as the items flow. What can't be laid
-//! out, a label that is unknown, stands twice or lies behind its jump, or a code of more than 65,535 bytes, is refused.
+//! to. Each jump has the least width that holds its offset, and the bytes run as the items flow. A label that is
+//! unknown, stands twice or lies behind its jump is refused, and so is a code of more than 65,535 bytes.
 #![tactic(auto)]
 
 mod assembly;

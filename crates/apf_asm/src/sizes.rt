@@ -27,7 +27,8 @@ fn tail_size(op: Op, reg: u8, width: u8, count: usize) -> u64
 pub(crate) fn size(item: &Item, width: u8) -> u64
     requires form { IsItemForm item.now }
     requires width { width ≤ 4 }
-    ensures { result ≡ size item.now width }
+    ensures size { result ≡ size item.now width }
+    ensures small { result ≤ 65548 }
 {
     match item {
         Item::Fixed(f) => {

@@ -75,8 +75,7 @@ fn item_offset(item: &Item, here: u64, there: u64) -> u64
     }
 }
 
-/// The one layout of items that are refused for no cause. An offset depends on later items alone, so one pass from the
-/// last item to the first finds what narrowing from four bytes, again and again, comes to.
+/// The one layout of items that are refused for no cause, from the last item to the first.
 pub(crate) fn space(alloc: Global, items: &[Item], aims: &[usize]) -> Result<Spacing, OutOfMemory>
     requires forms { All IsItemForm items.now }
     requires few { length items.now ≤ 1048576 }
@@ -90,11 +89,9 @@ pub(crate) fn space(alloc: Global, items: &[Item], aims: &[usize]) -> Result<Spa
     let mut offsets = vec![in alloc; 0; items.len()]?;
     // How far the end is from each item, and from behind the last.
     let mut distances = vec![in alloc; 0; items.len() + 1]?;
-    let mut number = items.len();
-    while number > 0 {
-        let here = distances[number];
-        number -= 1;
+    for number in (0..items.len()).rev() {
         let item = &items[number];
+        let here = distances[number + 1];
         let offset = item_offset(item, here, distances[aims[number]]);
         let width = item_width(item, offset);
         offsets[number] = offset;

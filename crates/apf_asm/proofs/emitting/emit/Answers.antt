@@ -1,4 +1,4 @@
-use Rattle.std.proofs.Common.{◌∙◌, ap, length, arith}
+use Rattle.std.proofs.Common.{ap, length, arith}
 use Rattle.apf_asm.proofs.Spaced.{length-item_widths}
 use Rattle.apf_asm.proofs.Emitted.{length-item_offsets, reads, emitted_more, emitted_short, emitted_end}
 use Rattle.apf_asm.proofs.emitting.emit.Goals as goal

@@ -1,4 +1,4 @@
-use Rattle.std.proofs.Common.{rules, arith, sym, ap, ◌∙◌, Option, ◌≡◌, ◌+◌, ◌≤◌, ◌<◌, ℕ, List, take, drop, length, Some, None, Bool, true, false, [], ◌∷◌, ◌++◌}
+use Rattle.std.proofs.Common.{rules, arith, sym, ap, ◌∙◌, Option, ◌≡◌, ◌+◌, ℕ, take, length, [], ◌∷◌, ◌++◌}
 use Rattle.std.specs.Ordering.{nat_cmp}
 use Rattle.std.specs.BTreeMap as tree
 use Rattle.std.proofs.lemmas.List.{length-take}

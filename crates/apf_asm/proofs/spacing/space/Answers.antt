@@ -1,5 +1,5 @@
-use Rattle.std.proofs.Common.{◌≡◌, ◌+◌, ◌-◌, ◌<◌, ◌≤◌, sym, ap, ◌∙◌, length, arith}
-use Rattle.apf_asm.proofs.Spaced.{Turn, turn, goes, length-aims, spaced_start, spaced_more, sum_fits, item_width-le}
+use Rattle.std.proofs.Common.{◌-◌, sym, ap, ◌∙◌, length, arith}
+use Rattle.apf_asm.proofs.Spaced.{turn, goes, length-aims, spaced_start, spaced_more}
 use Rattle.apf_asm.proofs.spacing.space.Goals as goal
 
 pub loop-number-init : goal.loop-number-init
@@ -29,12 +29,10 @@ pub overflow_add-here : goal.overflow_add-here
 overflow_add-here c =
     let positive = c.loop-number-test.true in
     let t = turn c.args.items.now c.args.aims.now (c.loop-number.number - 1) c.loop-number.number c.index-items-number.result _ _ _ c.index-here.result.now c.index.result.now c.requires.forms c.requires.few c.requires.labels c.requires.aims (omega arith) c.loop-number.invariant c.index-items-number.is c.index-here.ensures c.index.ensures in
-    let x = c.index-items-number.result in
-    let w : c.item_width-width.result ≤ 4 = omega (arith, item_width-le x c.item_offset-offset.result, c.item_width-width.ensures) in
-    omega (arith, sum_fits c.args.items.now (c.loop-number.number - 1) x c.index-here.result.now c.item_width-width.result c.requires.forms (omega (arith, c.loop-number.invariant.inside)) c.index-items-number.is t.small w, c.size.ensures)
+    omega (arith, t.small, c.size.ensures.small)
 
 pub loop-number-preserved : goal.loop-number-preserved
 loop-number-preserved c =
     let positive = c.loop-number-test.true in
     let t = turn c.args.items.now c.args.aims.now (c.loop-number.number - 1) c.loop-number.number c.index-items-number.result _ _ _ c.index-here.result.now c.index.result.now c.requires.forms c.requires.few c.requires.labels c.requires.aims (omega arith) c.loop-number.invariant c.index-items-number.is c.index-here.ensures c.index.ensures in
-    spaced_more c.args.items.now (c.loop-number.number - 1) c.loop-number.number c.index-items-number.result _ _ _ _ _ _ (omega arith) c.loop-number.invariant c.index-items-number.is (c.item_offset-offset.ensures ∙ sym t.offset_is) c.item_width-width.ensures (omega (arith, t.here_is, c.size.ensures))
+    spaced_more c.args.items.now (c.loop-number.number - 1) c.loop-number.number c.index-items-number.result _ _ _ _ _ _ (omega arith) c.loop-number.invariant c.index-items-number.is (c.item_offset-offset.ensures ∙ sym t.offset_is) c.item_width-width.ensures (omega (arith, t.here_is, c.size.ensures.size))

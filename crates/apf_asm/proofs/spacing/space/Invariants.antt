@@ -3,6 +3,3 @@ use Rattle.apf_asm.proofs.spacing.space.Given as goal
 
 abbrev pub invariant-loop-number : goal.invariant-loop-number
 invariant-loop-number l = Spaced l.items l.number l.widths.items l.offsets.items l.distances.items
-
-abbrev pub decreases-loop-number : goal.decreases-loop-number
-decreases-loop-number l = l.number
