@@ -9,3 +9,14 @@ pub mod Emitted
 pub mod Answering
 pub mod Narrowing
 pub mod FirstRefusal
+pub mod TextNumbers
+pub mod TextOperands
+pub mod TextSplitting
+pub mod TextTelling
+pub mod TextHex
+pub mod TextWords
+pub mod TextHeads
+pub mod TextItems
+pub mod TextLaws
+pub mod TextShapes
+pub mod TextKnowing

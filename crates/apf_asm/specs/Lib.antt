@@ -7,3 +7,8 @@ pub mod Labels
 pub mod Sizing
 pub mod Spacing
 pub mod Narrowing
+pub mod TextForms
+pub mod TextLines
+pub mod TextReading
+pub mod TextAnswers
+pub mod TextKnown

@@ -60,7 +60,9 @@ pub fn assemble(alloc: Global, items: &[Item]) -> Result<Code, AsmError>
     ensures backward { (item label : ℕ) →
         ExactlyWhere (refusal items.now ≡ Some (AsmError.Backward item label)) result (AsmError.Backward item label) }
     ensures too_long { (bytes : ℕ) → ExactlyWhere (IsOverlong items.now bytes) result (AsmError.TooLong bytes) }
+    // Every answer is that of the definition, but for want of memory.
     ensures ok { OnOk result (answer items.now ≡ None) }
+    ensures err { IfErr result (λ e. (e ≡ AsmError.OutOfMemory) ⊎ (answer items.now ≡ Some e)) }
 {
     assemble_items(alloc, items)
 }

@@ -13,9 +13,24 @@ mod sizes;
 mod spacing;
 #[cfg(test)]
 mod tests;
+mod text;
+mod text_bytes;
+mod text_error;
+mod text_head;
+mod text_item;
+mod text_laws;
+mod text_line;
+mod text_number;
+#[cfg(test)]
+mod text_tests;
 
 pub use assembly::assemble;
 pub use emitting::Code;
 pub use item::{AsmError, Fixed, Item, Jump, Target};
 pub use laws::{codes_are_at_most_wide, narrowing_comes_to_the_layout, refusals_are_first};
 pub use sharing::types_are_shared;
+pub use text::read_text;
+pub use text_error::{TextError, TextKind};
+pub use text_laws::{
+    first_words_are_listed, texts_are_answered, texts_are_read_or_refused, words_have_one_item,
+};

@@ -43,12 +43,14 @@ of-aimed Jset i width offset n frame m jump = jumps_if-aimed (not (bit_and m.r0 
 of-aimed Jnebs i width offset n frame m jump = bytes-aimed i width offset frame m
 of-aimed _ i width offset n frame m jump = absurd cc
 
+-- a jump that is written with another width and offset means the jump by that offset
 pub meaning-aimed : (i : Instruction) (width offset n : ℕ) (frame : List ℕ) (m : State) → is_jump i.op ≡ true → meaning (aimed_at i width offset) n frame m ≡ aimed offset (meaning i n frame m)
 unfolding meaning
 meaning-aimed i width offset n frame m jump = of-aimed i.op i width offset n frame m jump
 
 -- ---- what never jumps
 
+-- a meaning that jumps nowhere
 pub record IsNoJump (x : Meaning) : Type 0 where
   pub never : (offset : ℕ) → x ≡ Jump offset → ⊥
 
@@ -101,6 +103,7 @@ of-no_jump Lddw i n frame m jump = load_data-no_jump i n m
 of-no_jump Stdw i n frame m jump = store_data-no_jump i n m
 of-no_jump _ i n frame m jump = absurd cc
 
+-- the opcodes that jump are the only ones that do
 pub meaning-no_jump : (i : Instruction) (n : ℕ) (frame : List ℕ) (m : State) → is_jump i.op ≡ false → IsNoJump (meaning i n frame m)
 unfolding meaning
 meaning-no_jump i n frame m jump = of-no_jump i.op i n frame m jump

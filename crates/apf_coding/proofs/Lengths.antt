@@ -116,6 +116,7 @@ of-keeps Ext i n frame m = extended-keeps i m
 of-keeps Lddw i n frame m = load_data-keeps i n m
 of-keeps Stdw i n frame m = store_data-keeps i n m
 
+-- an instruction keeps the length of the memory
 pub meaning-keeps : (i : Instruction) (n : ℕ) (frame : List ℕ) (m : State) → Keeps (length m.memory) (meaning i n frame m)
 unfolding meaning
 meaning-keeps i n frame m = of-keeps i.op i n frame m
@@ -132,6 +133,7 @@ turn_of-kept end m (Next later) h = h
 turn_of-kept end m (Jump offset) h = refl
 turn_of-kept end m (Fault kind) h = tt
 
+-- a turn goes on, if it does, with a memory of that length
 record TurnKeeps (size : ℕ) (t : Turn) : Type 0 where
   pub length_stays : turn_kept size t
 
@@ -155,6 +157,7 @@ turn-keeps program frame place m = search (either_turn, ended-keeps, stopped-kee
 
 -- ---- a run
 
+-- a run leaves a memory of that length
 record HasMemory (size : ℕ) (r : Run) : Type 0 where
   pub length_is : length r.memory ≡ size
 
@@ -178,6 +181,7 @@ run_from-has (suc left) program frame steps place m =
       | Stopped kind ↦ λ h. record { length_is = refl }
     ] (turn-keeps program frame place m).length_stays
 
+-- a run from any place keeps the length of the memory
 pub run_from-keeps : (left : ℕ) (program frame : List ℕ) (steps place : ℕ) (m : State) → length (run_from left program frame steps place m).memory ≡ length m.memory
 run_from-keeps left program frame steps place m = (run_from-has left program frame steps place m).length_is
 
@@ -187,5 +191,6 @@ run-has program memory frame age =
     let first : State = first_state program memory frame age in
     either_run (length memory) _ _ _ (run_from-has (length program) program frame 0 0 first) (ended-has Pass 0 whys.Short first)
 
+-- and so does a whole run
 pub run-keeps : (program memory frame : List ℕ) (age : ℕ) → length (run program memory frame age).memory ≡ length memory
 run-keeps program memory frame age = (run-has program memory frame age).length_is

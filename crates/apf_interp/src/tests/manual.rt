@@ -41,7 +41,6 @@ b2f0 | R0 = 00112233
 6a80 | R0 = ffffff80
 6c0080 | R0 = 00000080
 6e00000080 | R0 = 00000080
-6a04 5b00 | R0 = 00000004
 0a14 | fault Frame
 48 | fault Division
 00 | fault Opcode

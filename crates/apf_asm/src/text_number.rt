@@ -1,0 +1,86 @@
+//! Words of a line that are numbers, registers and targets.
+
+ghost use Rattle.std.specs.Prelude.{◌≡◌, ◌≤◌};
+ghost use Rattle.std.specs.Char.{is_ascii_digit};
+ghost use Rattle.std.specs.List.{list_all};
+ghost use Rattle.apf_coding.specs.Reading.{Reads};
+ghost use Rattle.apf_asm.specs.TextReading.{is_numeral, number_of, signed_of, register_of, target_of, below};
+
+use crate::Target;
+
+fn are_digits(word: &[u8]) -> bool
+    ensures { result ≡ list_all is_ascii_digit word.now }
+{
+    word.iter().all(|c| c.is_ascii_digit())
+}
+
+/// Whether all bytes are digits, and the first is no surplus zero.
+fn is_numeral(word: &[u8]) -> bool
+    ensures { result ≡ is_numeral word.now }
+{
+    match word {
+        [] | [b'0', _, ..] => false,
+        _ => are_digits(word),
+    }
+}
+
+/// A decimal number without leading zeros.
+pub(crate) fn number(word: &[u8]) -> Option<u32>
+    ensures { Reads (λ x. x) result (number_of word.now) }
+{
+    if !is_numeral(word) {
+        return None;
+    }
+    str::from_utf8(word).ok()?.parse().ok()
+}
+
+/// A decimal number that may begin with `-`. There is no `-0`.
+#[tactic(auto, unfolding(crate::specs::TextReading::signed_of))]
+pub(crate) fn signed_number(word: &[u8]) -> Option<i32>
+    ensures { Reads (λ x. x) result (signed_of word.now) }
+{
+    match word {
+        [b'-', digits @ ..] => match number(digits)? {
+            0 => None,
+            n => i32::try_from(-i64::from(n)).ok(),
+        },
+        _ => i32::try_from(number(word)?).ok(),
+    }
+}
+
+/// A number below a bound of at most 256.
+#[tactic(auto, unfolding(crate::specs::TextReading::below))]
+pub(crate) fn number_below(bound: u16, word: &[u8]) -> Option<u8>
+    requires { bound ≤ 256 }
+    ensures { Reads (λ x. x) result (below bound word.now) }
+{
+    match number(word)? {
+        n if n < u32::from(bound) => Some(n as u8),
+        _ => None,
+    }
+}
+
+/// `r0` or `r1`.
+#[tactic(auto, unfolding(crate::specs::TextReading::register_of))]
+pub(crate) fn register(word: &[u8]) -> Option<u8>
+    ensures { Reads (λ x. x) result (register_of word.now) }
+{
+    match word {
+        b"r0" => Some(0),
+        b"r1" => Some(1),
+        _ => None,
+    }
+}
+
+/// `pass`, `drop` or a label.
+#[tactic(auto, unfolding(crate::specs::TextReading::target_of))]
+pub(crate) fn target(word: &[u8]) -> Option<Target>
+    ensures { Reads (λ x. x) result (target_of word.now) }
+{
+    match word {
+        b"pass" => Some(Target::Pass),
+        b"drop" => Some(Target::Drop),
+        [b'L', digits @ ..] => Some(Target::Label(number(digits)?)),
+        _ => None,
+    }
+}
