@@ -1,4 +1,5 @@
 -- The layout from the last item to the first, by how far each item is from the end.
+-- All is said of the items that are left and their own layout, since the widths of a suffix are a suffix of the widths: so no lemma asks for lists of equal length.
 use Rattle.std.proofs.Common.{◌≡◌, ℕ, suc, ◌+◌, ◌-◌, ◌^◌, ◌<◌, ◌≤◌, Bool, true, false, cond, List, [], ◌∷◌, length, take, drop, get_or, set, replicate, zero, None, inl, inr, refl, sym, ap, ap₂, subst, ◌∙◌, arith}
 use Rattle.std.specs.Prelude.{All, ◌||◌}
 use Rattle.std.proofs.lemmas.Bool.{cases_eq}

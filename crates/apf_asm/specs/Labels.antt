@@ -25,7 +25,7 @@ target_index rest (targets.Label l) = label_at l rest
 target_index rest targets.Pass = length rest
 target_index rest targets.Drop = length rest
 
--- an item that is no jump has the number behind the last too
+-- an item that is no jump has the number behind the last too, so that each has a target whose distance to the end is known
 abbrev pub item_index : List Item → Item → ℕ
 item_index rest (items.Jump j) = target_index rest j.to
 item_index rest (items.Fixed f) = length rest
