@@ -43,7 +43,7 @@ named_from name op [] e = absurd cc
 named_from name op (other ∷ ops) e = elim (chosen (name_of other) name (bytes_eq (name_of other) name) (Some other) _ op refl e) [
   | inl same ↦ subst (λ (x : Op). name_of x ≡ name) (some_is other op same.1) same.0
   | inr later ↦ named_from name op ops later
-  ]
+]
 
 pub op_named_is : (name : List ℕ) (op : Op) → op_named name ≡ Some op → name_of op ≡ name
 unfolding op_named
@@ -167,10 +167,10 @@ unfolding head_of
 head_of_is w h e = elim (by_test (is_label_word w) _ _ h e) [
   | inl label ↦ label_is w h label.0 label.1
   | inr other ↦ elim (by_test (is_dotted_word w) _ _ h other) [
-      | inl dotted ↦ dotted_is w h dotted.0 dotted.1
-      | inr name ↦ name_head_is (op_named w) w h refl name
-    ]
+    | inl dotted ↦ dotted_is w h dotted.0 dotted.1
+    | inr name ↦ name_head_is (op_named w) w h refl name
   ]
+]
 
 -- ---- the first words of the forms
 
@@ -196,7 +196,7 @@ at_widths P p0 p1 p2 p4 w width = elim width [
   | inr (inl e) ↦ subst P (sym e) p1
   | inr (inr (inl e)) ↦ subst P (sym e) p2
   | inr (inr (inr e)) ↦ subst P (sym e) p4
-  ]
+]
 
 pub head_of-dotted : (op : Op) (width : ℕ) → IsWidth width → head_of (dotted_word op width) ≡ Some (heads.Dotted op width)
 unfolding head_of op_named

@@ -255,6 +255,18 @@ no_tail second bytes a b p q = rw (p, q) refl
 second_tail : (second : ℕ) (bytes : List ℕ) (a b : Bool) → a ≡ true → b ≡ false → cond a (decimal second ∷ []) [] ++ cond b (hex_word bytes ∷ []) [] ≡ decimal second ∷ []
 second_tail second bytes a b p q = rw (p, q) refl
 
+short_words : (op : Op) (reg width imm : ℕ) (w a b : List ℕ) (ops : List (List ℕ)) → w ≡ dotted_word op width → ops ≡ a ∷ b ∷ [] → a ≡ register_word reg → b ≡ decimal imm → has_second op reg ≡ false → is_counted op ≡ false
+    → w ∷ ops ≡ words_of (Dotted (record { op = op; reg = reg; width = width; imm = imm; second = 0; bytes = [] }))
+short_words op reg width imm w a b ops s o ea eb has counts =
+    three_words w (dotted_word op width) a (register_word reg) b (decimal imm) ops s o ea eb
+    ∙ ap (λ (t : List (List ℕ)). dotted_word op width ∷ register_word reg ∷ decimal imm ∷ t) (sym (no_tail 0 [] (has_second op reg) (is_counted op) has counts))
+
+long_words : (op : Op) (reg width imm second : ℕ) (w a b c : List ℕ) (ops : List (List ℕ)) → w ≡ dotted_word op width → ops ≡ a ∷ b ∷ c ∷ [] → a ≡ register_word reg → b ≡ decimal imm → c ≡ decimal second → has_second op reg ≡ true → is_counted op ≡ false
+    → w ∷ ops ≡ words_of (Dotted (record { op = op; reg = reg; width = width; imm = imm; second = second; bytes = [] }))
+long_words op reg width imm second w a b c ops s o ea eb ec has counts =
+    four_words w (dotted_word op width) a (register_word reg) b (decimal imm) c (decimal second) ops s o ea eb ec
+    ∙ ap (λ (t : List (List ℕ)). dotted_word op width ∷ register_word reg ∷ decimal imm ∷ t) (sym (second_tail second [] (has_second op reg) (is_counted op) has counts))
+
 short_is : (op : Op) (width : ℕ) (w a b : List ℕ) (ops : List (List ℕ)) (item : Item) → IsWidth width → is_counted op ≡ false → w ≡ dotted_word op width → ops ≡ a ∷ b ∷ [] → short_read op width a b ≡ Some item → Denotes (w ∷ ops) item
 short_is op width w a b ops item fits counts s o e =
     let r = bind_some (register_of a) (λ reg. fitting width b >>= λ imm. cond (has_second op reg) None (Some (plain op reg width imm))) item e in
@@ -266,7 +278,7 @@ short_is op width w a b ops item fits counts s o e =
     let i : Instruction = record { op = op; reg = r.0; width = width; imm = n.0; second = 0; bytes = [] } in
     let good : IsWellFormed i = record { reg = reg.0; width = fits; imm = number.0; second = zero_fits; no_second = λ h. refl; bytes = zero_fits; no_bytes = λ h. refl } in
     let small : length i.bytes ≤ 65535 = omega arith in
-    denoted (Dotted i) (w ∷ ops) item (good, (λ k. omega arith), small) (three_words w (dotted_word op width) a (register_word r.0) b (decimal n.0) ops s o reg.1 number.1 ∙ ap (λ (t : List (List ℕ)). dotted_word op width ∷ register_word r.0 ∷ decimal n.0 ∷ t) (sym (no_tail 0 [] (has_second op r.0) (is_counted op) u.0 counts))) u.1
+    denoted (Dotted i) (w ∷ ops) item (good, (λ k. omega arith), small) (short_words op r.0 width n.0 w a b ops s o reg.1 number.1 u.0 counts) u.1
 
 long_is : (op : Op) (width : ℕ) (w a b c : List ℕ) (ops : List (List ℕ)) (item : Item) → IsWidth width → is_counted op ≡ false → w ≡ dotted_word op width → ops ≡ a ∷ b ∷ c ∷ [] → long_read op width a b c ≡ Some item → Denotes (w ∷ ops) item
 long_is op width w a b c ops item fits counts s o e =
@@ -280,9 +292,9 @@ long_is op width w a b c ops item fits counts s o e =
     let second = fitting_is width c m.0 fits m.1 in
     let zero_fits = one_fits width fits in
     let i : Instruction = record { op = op; reg = r.0; width = width; imm = n.0; second = m.0; bytes = [] } in
-    let good : IsWellFormed i = record { reg = reg.0; width = fits; imm = number.0; second = second.0; no_second = λ h. absurd cc; bytes = zero_fits; no_bytes = λ h. refl } in
+    let good : IsWellFormed i = record { reg = reg.0; width = fits; imm = number.0; second = second.0; no_second = λ h. absurd {A = m.0 ≡ 0} cc; bytes = zero_fits; no_bytes = λ h. refl } in
     let small : length i.bytes ≤ 65535 = omega arith in
-    denoted (Dotted i) (w ∷ ops) item (good, (λ k. omega arith), small) (four_words w (dotted_word op width) a (register_word r.0) b (decimal n.0) c (decimal m.0) ops s o reg.1 number.1 second.1 ∙ ap (λ (t : List (List ℕ)). dotted_word op width ∷ register_word r.0 ∷ decimal n.0 ∷ t) (sym (second_tail m.0 [] (has_second op r.0) (is_counted op) u.0 counts))) u.1
+    denoted (Dotted i) (w ∷ ops) item (good, (λ k. omega arith), small) (long_words op r.0 width n.0 m.0 w a b c ops s o reg.1 number.1 second.1 u.0 counts) u.1
 
 counted_is_form : (width : ℕ) (w : List ℕ) (ops : List (List ℕ)) (item : Item) → IsWidth width → w ≡ dotted_word Jnebs width → three ops (counted_read width) ≡ Some item → Denotes (w ∷ ops) item
 counted_is_form width w ops item fits s e =
@@ -396,7 +408,7 @@ word_from n w width lt = elim width [
   | inr (inl p) ↦ let small : n < 256 ^ 1 = subst (λ (k : ℕ). n < 256 ^ k) p lt in omega arith
   | inr (inr (inl p)) ↦ let small : n < 256 ^ 2 = subst (λ (k : ℕ). n < 256 ^ k) p lt in omega arith
   | inr (inr (inr p)) ↦ let small : n < 256 ^ 4 = subst (λ (k : ℕ). n < 256 ^ k) p lt in omega arith
-  ]
+]
 
 fitting_again : (w n : ℕ) → IsWidth w → n < 256 ^ w → fitting w (decimal n) ≡ Some n
 fitting_again w n width lt = fitting-decimal w n width lt (word_from n w width lt)

@@ -80,5 +80,5 @@ known_listed word = (
     | inl (inr other) ↦ other_known word other.0 other.1 other.2
     | inr (inl label) ↦ known_from (heads.Label label.0) word (label.1, label.2)
     | inr (inr dotted) ↦ known_from (heads.Dotted dotted.0 dotted.1) word (dotted.2, dotted.3)
-    ]),
+  ]),
 )

@@ -67,7 +67,7 @@ known_from (heads.Register code) w is = elim is [
   | inl nots ↦ known_by (Complement 0) w _ _ (omega arith) refl nots.1
   | inr (inl neg) ↦ known_by (Negate 0) w _ _ (omega arith) refl neg.1
   | inr (inr moves) ↦ known_by (Move 0) w _ _ (omega arith) refl moves.1
-  ]
+]
 known_from heads.Swap w is = known_by Swap w _ _ tt refl is
 known_from heads.Jump w is = known_by (Jump targets.Pass) w _ _ tt refl is
 known_from (heads.Compare op) w is = known_by (CompareR1 op targets.Pass) w _ _ (is.0, tt) refl is.1

@@ -92,8 +92,8 @@ compare_form op n to c small =
     let no_count = k.1 in
     record { op = k.0; reg = omega arith; no_reg = λ h. refl; second = small; no_second = λ h. absurd (both has h); no_bytes = λ h. refl; some_bytes = λ h. absurd (both h no_count); each_a_byte = λ k. omega arith; short = omega arith }
   where
-  both : {b : Bool} → b ≡ true → b ≡ false → ⊥
-  both p q = let e : true ≡ false = sym p ∙ q in absurd cc
+    both : {b : Bool} → b ≡ true → b ≡ false → ⊥
+    both p q = let e : true ≡ false = sym p ∙ q in absurd cc
 
 compare_r1_form : (op : Op) (to : Target) → is_conditional op ≡ true → IsItemForm (jump op 1 0 [] to)
 compare_r1_form op to c =
@@ -101,8 +101,8 @@ compare_r1_form op to c =
     let no_count = k.1 in
     record { op = k.0; reg = omega arith; no_reg = λ h. absurd (both c h); second = omega arith; no_second = λ h. refl; no_bytes = λ h. refl; some_bytes = λ h. absurd (both h no_count); each_a_byte = λ k. omega arith; short = omega arith }
   where
-  both : {b : Bool} → b ≡ true → b ≡ false → ⊥
-  both p q = let e : true ≡ false = sym p ∙ q in absurd cc
+    both : {b : Bool} → b ≡ true → b ≡ false → ⊥
+    both p q = let e : true ≡ false = sym p ∙ q in absurd cc
 
 bytes_form : (bytes : List ℕ) (to : Target) → ((k : ℕ) → slice_index bytes k < 256) → 0 < length bytes → length bytes ≤ 65535 → IsItemForm (jump Jnebs 0 0 bytes to)
 bytes_form bytes to each some long = record { op = refl; reg = omega arith; no_reg = λ h. refl; second = omega arith; no_second = λ h. refl; no_bytes = λ h. absurd cc; some_bytes = λ h. some; each_a_byte = each; short = long }

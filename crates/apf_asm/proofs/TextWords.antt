@@ -41,9 +41,9 @@ unfolding register_of
 register_of_is word reg e = elim (chosen word (codes "r0") (bytes_eq word (codes "r0")) _ _ reg refl e) [
   | inl zero_is ↦ let same : 0 ≡ reg = some_is 0 reg zero_is.1 in subst (λ (r : ℕ). (r < 2) × (word ≡ register_word r)) same (omega arith, zero_is.0)
   | inr other ↦ elim (chosen word (codes "r1") (bytes_eq word (codes "r1")) _ _ reg refl other) [
-      | inl one_is ↦ let same : 1 ≡ reg = some_is 1 reg one_is.1 in subst (λ (r : ℕ). (r < 2) × (word ≡ register_word r)) same (omega arith, one_is.0)
-      | inr none ↦ absurd cc
-    ]
+    | inl one_is ↦ let same : 1 ≡ reg = some_is 1 reg one_is.1 in subst (λ (r : ℕ). (r < 2) × (word ≡ register_word r)) same (omega arith, one_is.0)
+    | inr none ↦ absurd cc
+  ]
 ]
 
 pub register_of-word : (reg : ℕ) → reg < 2 → register_of (register_word reg) ≡ Some reg
@@ -99,9 +99,9 @@ pub first_byte : {A : Type 0} (word : List ℕ) (c : ℕ) (x y : Option A) (z : 
 first_byte [] c x y z lt e = inr (rw (ne_eqb 0 c (λ p. omega arith)) at e)
 first_byte (b ∷ rest) c x y z lt e = go (eqb b c) refl e
   where
-  go : (yes : Bool) → eqb b c ≡ yes → cond yes x y ≡ Some z → ((b ∷ rest ≡ c ∷ rest) × (x ≡ Some z)) ⊎ (y ≡ Some z)
-  go true t e = inl (ap (λ (n : ℕ). n ∷ rest) (eqb-true b c t), e)
-  go false t e = inr e
+    go : (yes : Bool) → eqb b c ≡ yes → cond yes x y ≡ Some z → ((b ∷ rest ≡ c ∷ rest) × (x ≡ Some z)) ⊎ (y ≡ Some z)
+    go true t e = inl (ap (λ (n : ℕ). n ∷ rest) (eqb-true b c t), e)
+    go false t e = inr e
 
 -- ---- signed numbers
 
@@ -153,15 +153,15 @@ unfolding target_of
 target_of_is word to e = elim (chosen word (codes "pass") (bytes_eq word (codes "pass")) _ _ to refl e) [
   | inl pass ↦ subst (λ (t : Target). IsTarget t × (word ≡ target_word t)) (some_is targets.Pass to pass.1) (tt, pass.0)
   | inr other ↦ elim (chosen word (codes "drop") (bytes_eq word (codes "drop")) _ _ to refl other) [
-      | inl drops ↦ subst (λ (t : Target). IsTarget t × (word ≡ target_word t)) (some_is targets.Drop to drops.1) (tt, drops.0)
-      | inr named ↦ elim (first_byte word 76 _ None to (omega arith) named) [
-          | inl label ↦
-              let b = bind_some (number_of (drop 1 word)) (λ n. Some (targets.Label n)) to label.1 in
-              let text = number_of_is (drop 1 word) b.0 b.1 in
-              subst (λ (t : Target). IsTarget t × (word ≡ target_word t)) (some_is (targets.Label b.0) to b.2) (text.0, label.0 ∙ ap (λ (t : List ℕ). 76 ∷ t) text.1)
-          | inr none ↦ absurd cc
-        ]
+    | inl drops ↦ subst (λ (t : Target). IsTarget t × (word ≡ target_word t)) (some_is targets.Drop to drops.1) (tt, drops.0)
+    | inr named ↦ elim (first_byte word 76 _ None to (omega arith) named) [
+      | inl label ↦
+          let b = bind_some (number_of (drop 1 word)) (λ n. Some (targets.Label n)) to label.1 in
+          let text = number_of_is (drop 1 word) b.0 b.1 in
+          subst (λ (t : Target). IsTarget t × (word ≡ target_word t)) (some_is (targets.Label b.0) to b.2) (text.0, label.0 ∙ ap (λ (t : List ℕ). 76 ∷ t) text.1)
+      | inr none ↦ absurd cc
     ]
+  ]
 ]
 
 pub target_of-word : (to : Target) → IsTarget to → target_of (target_word to) ≡ Some to

@@ -8,9 +8,9 @@ ghost use Rattle.apf_asm.specs.TextLines.{lines_of, Reads, Refuses};
 ghost use Rattle.apf_asm.specs.TextAnswers.{Adds, Tells};
 ghost use Rattle.apf_asm.specs.TextReading.{line_answer, text_answer};
 
+use crate::Item;
 use crate::text_error::TextError;
 use crate::text_line::{Refusal, line_item};
-use crate::Item;
 use apf_base::List;
 use std::alloc::Global;
 

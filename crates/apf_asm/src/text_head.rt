@@ -51,9 +51,7 @@ const OPS: [Op; 23] = [
 fn op_named(name: &[u8]) -> Option<Op>
     ensures { result ≡ op_named name.now }
 {
-    OPS.iter()
-        .copied()
-        .find(|op| op.name().as_bytes() == name)
+    OPS.iter().copied().find(|op| op.name().as_bytes() == name)
 }
 
 /// The width of a digit.

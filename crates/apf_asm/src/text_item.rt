@@ -118,14 +118,7 @@ fn short(alloc: Global, op: Op, width: u8, reg: &[u8], imm: &[u8]) -> Option<Ite
 }
 
 /// An instruction with its width and a second immediate.
-fn long(
-    alloc: Global,
-    op: Op,
-    width: u8,
-    reg: &[u8],
-    imm: &[u8],
-    second: &[u8],
-) -> Option<Item>
+fn long(alloc: Global, op: Op, width: u8, reg: &[u8], imm: &[u8], second: &[u8]) -> Option<Item>
     ensures { Reads (λ x. x) result (long_read op width reg.now imm.now second.now) }
 {
     let reg = register(reg)?;

@@ -7,10 +7,10 @@ ghost use Rattle.apf_asm.specs.TextLines.{is_printable, without_comment, words_i
 ghost use Rattle.apf_asm.specs.TextAnswers.{Answers};
 ghost use Rattle.apf_asm.specs.TextReading.{words_answer, line_answer};
 
+use crate::Item;
 use crate::text_error::TextKind;
 use crate::text_head::head_of;
 use crate::text_item::item;
-use crate::Item;
 use apf_base::OutOfMemory;
 use std::alloc::{AllocError, Global};
 

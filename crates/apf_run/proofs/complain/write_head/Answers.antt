@@ -18,7 +18,7 @@ returns-in_err-write_all-2-clause-err g c =
     let p = err_from_is_err_and c.from_residual-in_err-write_all-2.result c.from_residual-in_err-write_all-2.ensures.1 in
     let words = c.as_bytes.ensures.value ∙ c.fault_words.ensures in
     rw (p.1) (front_after _ _ _ (codes "apf_run: ") c.as_bytes.result.now (fault_name c.args.fault (texts c.args.words.now)) _
-      c.in_ok-write_all.ensures.ok c.in_err-write_all-2.ensures.err (rw words refl))
+    c.in_ok-write_all.ensures.ok c.in_err-write_all-2.ensures.err (rw words refl))
 
 pub returns-clause-ok : goal.returns-clause-ok
 unfolding fault_head
@@ -26,7 +26,7 @@ returns-clause-ok g c =
     let words = c.as_bytes.ensures.value ∙ c.fault_words.ensures in
     let name = c.as_bytes-2.ensures.value ∙ c.fault_name.ensures in
     on_ok_weaker c.write_all-3.result (λ now. all_three _ _ _ _ (codes "apf_run: ") c.as_bytes.result.now c.as_bytes-2.result.now _
-      c.in_ok-write_all.ensures.ok c.in_ok-write_all-2.ensures.ok now (rw (words, name) refl)) c.write_all-3.ensures.ok
+    c.in_ok-write_all.ensures.ok c.in_ok-write_all-2.ensures.ok now (rw (words, name) refl)) c.write_all-3.ensures.ok
 
 pub returns-clause-err : goal.returns-clause-err
 unfolding fault_head
@@ -34,4 +34,4 @@ returns-clause-err g c =
     let words = c.as_bytes.ensures.value ∙ c.fault_words.ensures in
     let name = c.as_bytes-2.ensures.value ∙ c.fault_name.ensures in
     on_err_weaker c.write_all-3.result (λ now. third_fails _ _ _ _ (codes "apf_run: ") c.as_bytes.result.now c.as_bytes-2.result.now _
-      c.in_ok-write_all.ensures.ok c.in_ok-write_all-2.ensures.ok now (rw (words, name) refl)) c.write_all-3.ensures.err
+    c.in_ok-write_all.ensures.ok c.in_ok-write_all-2.ensures.ok now (rw (words, name) refl)) c.write_all-3.ensures.err
