@@ -1,0 +1,42 @@
+#!/usr/bin/env bash
+# How fast `asm` assembles texts of 1 MiB: plain lines, 100,000 labels and jumps, and a chain of jumps of which each
+# gets its width from those behind it. Wants Python 3, and the proved program: run ./install first.
+#
+# Goal: plain lines in less than one second, labels and the chain in less than two.
+set -eu
+top=$(cd "$(dirname "$0")/.." && pwd)
+program=${APF_RUN:-$top/crates/apf_run/out/apf_run}
+[ -x "$program" ] || { echo "No $program: run ./install first." >&2; exit 2; }
+folder=$(mktemp -d)
+trap 'rm -rf "$folder"' EXIT
+python3 - "$program" "$folder" <<'PYTHON'
+import os, subprocess, sys, time
+
+program, folder = sys.argv[1:]
+SIZE = 1_048_576
+
+def padded(lines):
+    text = "\n".join(lines) + "\n"
+    assert len(text) <= SIZE, len(text)
+    return text + ";" * (SIZE - len(text))
+
+plain = padded(["add r1 ; a comment"] * 55_000)
+labels = padded([line for n in range(50_000) for line in (f"jmp L{n}", f"L{n}:")])
+# Each jump goes over the next 84 jumps, which takes one byte where they take few enough.
+chain = padded([line for n in range(20_000) for line in (f"L{n}:", f"jeq 1 L{n + 84}")] + [f"L{n}:" for n in range(20_000, 20_084)])
+
+for name, text in ("plain lines", plain), ("labels and jumps", labels), ("chain of jumps", chain):
+    path = os.path.join(folder, "text")
+    with open(path, "w") as out:
+        out.write(text)
+    best = None
+    for _ in range(3):
+        start = time.monotonic()
+        child = subprocess.Popen([program, "asm", path], stdout=subprocess.PIPE)
+        code = child.stdout.read()
+        _, status, usage = os.wait4(child.pid, 0)
+        assert status == 0, status
+        seconds = time.monotonic() - start
+        best = min(best or seconds, seconds)
+    print(f"asm, {name}: {len(text):,} bytes to {len(code):,} in {best:.3f} s, peak {usage.ru_maxrss / 1024:.1f} MiB")
+PYTHON

@@ -1,0 +1,15 @@
+-- Fields of a frame.
+use Rattle.std.specs.Prelude.{ℕ, ◌+◌, ◌*◌, ◌^◌, nat_lt, if◌then◌else◌, List, [], ◌∷◌, length, slice_range, Option, Some, None}
+
+-- the big-endian value of bytes
+abbrev pub value_of : List ℕ → ℕ
+value_of [] = 0
+value_of (b ∷ bytes) = b * 256 ^ length bytes + value_of bytes
+
+-- the bytes from a place on, or none where one of them isn't in the frame
+unfoldable pub part : List ℕ → ℕ → ℕ → Option (List ℕ)
+part frame at len = if nat_lt (length frame) (at + len) then None else Some (slice_range frame at (at + len))
+
+-- the number in the bytes from a place on, or none where one of them isn't in the frame
+unfoldable pub field : List ℕ → ℕ → ℕ → Option ℕ
+field frame at width = if nat_lt (length frame) (at + width) then None else Some (value_of (slice_range frame at (at + width)))

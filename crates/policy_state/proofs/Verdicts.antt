@@ -1,0 +1,167 @@
+-- Each answer has a counter of its verdict.
+use Rattle.std.proofs.Common.{◌≡◌, ◌≢◌, ℕ, ◌≤◌, Bool, true, false, not, eqb, List, length, Option, Some, None, refl, subst, lit≤}
+use Rattle.std.proofs.lemmas.Bool.{ltb-false}
+use Rattle.std.specs.Prelude.{nat_lt, ◌&&◌, bytes_eq, if◌then◌else◌}
+use Rattle.apf_coding.specs.declared.machine.Verdict.{Verdict}
+use Rattle.apf_coding.specs.declared.machine.Verdict.TheVariants.{Pass, Drop}
+use Rattle.data_counters.specs.declared.counter.Counter.{Counter}
+use Rattle.data_counters.specs.declared.counter.Counter.TheVariants.{PassedArp, PassedArpNonIpv4, PassedArpUnknown, PassedArpUnicastReply, PassedIpv4, PassedIpv6Icmp, PassedNonIpUnicast, Dropped8023Frame, DroppedEthertypeDenied, DroppedEthBroadcast, DroppedArpReplySpaNoHost, DroppedGarpReply, DroppedArpOtherHost}
+use Rattle.data_counters.specs.Counters.{number_of}
+use Rattle.policy_state.specs.declared.basis.Basis.{Basis}
+use Rattle.policy_state.specs.declared.state.Address.{Address}
+use Rattle.policy_state.specs.declared.ruling.Ruling.{Ruling}
+use Rattle.policy_state.specs.declared.ruling.Ruling.TheVariants as rulings
+use Rattle.policy_state.specs.Asking.{reading, when, otherwise, first_of}
+use Rattle.frame_views.specs.Fields.{part}
+use Rattle.policy_state.specs.Ethernet.{destination, ethertype, broadcast}
+use Rattle.policy_state.specs.Policy.{is_denied, frames_802_3, denied_types, link, for_other_addresses, unknown_operations, replies_of_no_host, unicast_replies, arp_opening, arp_operation, arp_sender, arp_target, gratuitous_arp, arp_for_other_hosts, arp, ip4, ip6, others, questions}
+use Rattle.policy_state.specs.Whole.{Short, Says, fate_of, policy}
+
+-- ---- a counter of a verdict
+
+abbrev least : Verdict → ℕ
+least Pass = 2
+least Drop = 13
+
+abbrev most : Verdict → ℕ
+most Pass = 12
+most Drop = 27
+
+pub record Tells (verdict : Verdict) (counter : Counter) : Type 0 where
+  pub least : least verdict ≤ number_of counter
+  pub most : number_of counter ≤ most verdict
+
+-- where it is an answer, its counter is one of its verdict
+pub record IsTold (answer : Ruling) : Type 0 where
+  pub told : (verdict : Verdict) (counter : Counter) → answer ≡ rulings.Says verdict counter → Tells verdict counter
+
+told_missing : IsTold rulings.Missing
+told_missing = record { told = λ v c e. absurd cc }
+
+told_silent : IsTold rulings.Silent
+told_silent = record { told = λ v c e. absurd cc }
+
+told_says : (verdict : Verdict) (counter : Counter) → Tells verdict counter → IsTold (rulings.Says verdict counter)
+told_says verdict counter t = record {
+  told = λ v c e. let same_verdict : verdict ≡ v = cc in let same_counter : counter ≡ c = cc in
+      subst (λ (d : Counter). Tells v d) same_counter (subst (λ (w : Verdict). Tells w counter) same_verdict t);
+}
+
+-- ---- the words of the policy
+
+told_reading : {A : Type 0} (o : Option A) (next : A → Ruling) → ((v : A) → IsTold (next v)) → IsTold (reading o next)
+told_reading None next told = told_missing
+told_reading (Some v) next told = told v
+
+told_when : (test : Bool) (answer : Ruling) → IsTold answer → IsTold (when test answer)
+told_when true answer told = told
+told_when false answer told = told_silent
+
+told_if : (test : Bool) (answer other : Ruling) → IsTold answer → IsTold other → IsTold (if test then answer else other)
+told_if true answer other told too = told
+told_if false answer other told too = too
+
+told_otherwise : (first later : Ruling) → IsTold first → IsTold later → IsTold (otherwise first later)
+told_otherwise rulings.Missing later told other = told
+told_otherwise rulings.Silent later told other = other
+told_otherwise (rulings.Says v c) later told other = told
+
+-- ---- the questions
+
+told_802_3 : (basis : Basis) (frame : List ℕ) → IsTold (frames_802_3 basis frame)
+told_802_3 basis frame = told_when basis.config.drop_802_3 _ (told_reading (ethertype frame) _ (λ e. told_when (nat_lt e 0x600) _ (told_says Drop Dropped8023Frame (record { least = lit≤ tt; most = lit≤ tt }))))
+
+told_denied : (basis : Basis) (frame : List ℕ) → IsTold (denied_types basis frame)
+told_denied basis frame = told_reading (ethertype frame) _ (λ e. told_when (is_denied basis.config.deny e) _ (told_says Drop DroppedEthertypeDenied (record { least = lit≤ tt; most = lit≤ tt })))
+
+told_link : (basis : Basis) (frame : List ℕ) → IsTold (link basis frame)
+told_link basis frame = told_otherwise _ _ (told_802_3 basis frame) (told_otherwise _ _ (told_denied basis frame) told_silent)
+
+told_other_addresses : (frame : List ℕ) → IsTold (for_other_addresses frame)
+told_other_addresses frame = told_reading (part frame 14 6) _ (λ o. told_when (not (bytes_eq o arp_opening)) _ (told_says Pass PassedArpNonIpv4 (record { least = lit≤ tt; most = lit≤ tt })))
+
+told_unknown : (frame : List ℕ) → IsTold (unknown_operations frame)
+told_unknown frame = told_reading (arp_operation frame) _ (λ op. told_when (not (eqb op 1) && not (eqb op 2)) _ (told_says Pass PassedArpUnknown (record { least = lit≤ tt; most = lit≤ tt })))
+
+told_no_host : (frame : List ℕ) → IsTold (replies_of_no_host frame)
+told_no_host frame = told_reading (arp_operation frame) _ (λ op. told_when (eqb op 2) _ (told_reading (arp_sender frame) _ (λ s. told_when (eqb s 0) _ (told_says Drop DroppedArpReplySpaNoHost (record { least = lit≤ tt; most = lit≤ tt })))))
+
+told_unicast : (frame : List ℕ) → IsTold (unicast_replies frame)
+told_unicast frame = told_reading (arp_operation frame) _ (λ op. told_when (eqb op 2) _ (told_reading (destination frame) _ (λ m. told_when (not (bytes_eq m broadcast)) _ (told_says Pass PassedArpUnicastReply (record { least = lit≤ tt; most = lit≤ tt })))))
+
+told_gratuitous : (address : Option Address) (frame : List ℕ) → IsTold (gratuitous_arp address frame)
+told_gratuitous None frame = told_reading (arp_target frame) _ (λ t. told_when (eqb t 0) _ (told_says Drop DroppedGarpReply (record { least = lit≤ tt; most = lit≤ tt })))
+told_gratuitous (Some address) frame = told_silent
+
+told_other_hosts : (address : Option Address) (frame : List ℕ) → IsTold (arp_for_other_hosts address frame)
+told_other_hosts None frame = told_silent
+told_other_hosts (Some address) frame = told_reading (arp_target frame) _ (λ t. told_when (not (eqb t address.ip)) _ (told_says Drop DroppedArpOtherHost (record { least = lit≤ tt; most = lit≤ tt })))
+
+told_arp : (basis : Basis) (frame : List ℕ) → IsTold (arp basis frame)
+told_arp basis frame = told_reading (ethertype frame) _ (λ e. told_when (eqb e 0x806) _
+    (told_otherwise _ _ (told_other_addresses frame)
+    (told_otherwise _ _ (told_unknown frame)
+    (told_otherwise _ _ (told_no_host frame)
+    (told_otherwise _ _ (told_unicast frame)
+    (told_otherwise _ _ (told_gratuitous basis.state.address frame)
+    (told_otherwise _ _ (told_other_hosts basis.state.address frame)
+    (told_otherwise _ _ (told_says Pass PassedArp (record { least = lit≤ tt; most = lit≤ tt })) told_silent))))))))
+
+told_ip4 : (frame : List ℕ) → IsTold (ip4 frame)
+told_ip4 frame = told_reading (ethertype frame) _ (λ e. told_when (eqb e 0x800) _ (told_says Pass PassedIpv4 (record { least = lit≤ tt; most = lit≤ tt })))
+
+told_ip6 : (frame : List ℕ) → IsTold (ip6 frame)
+told_ip6 frame = told_reading (ethertype frame) _ (λ e. told_when (eqb e 0x86dd) _ (told_says Pass PassedIpv6Icmp (record { least = lit≤ tt; most = lit≤ tt })))
+
+told_others : (frame : List ℕ) → IsTold (others frame)
+told_others frame = told_reading (destination frame) _ (λ m. told_if (bytes_eq m broadcast) _ _ (told_says Drop DroppedEthBroadcast (record { least = lit≤ tt; most = lit≤ tt })) (told_says Pass PassedNonIpUnicast (record { least = lit≤ tt; most = lit≤ tt })))
+
+told_questions : (basis : Basis) (age : ℕ) (frame : List ℕ) → IsTold (first_of (questions basis age frame))
+told_questions basis age frame =
+    told_otherwise _ _ (told_link basis frame)
+    (told_otherwise _ _ (told_arp basis frame)
+    (told_otherwise _ _ (told_ip4 frame)
+    (told_otherwise _ _ (told_ip6 frame)
+    (told_otherwise _ _ (told_others frame) told_silent))))
+
+-- ---- whole frames
+
+told_fate : (answer : Ruling) (verdict : Verdict) (counter : Counter) → IsTold answer → fate_of answer ≡ Says verdict counter → Tells verdict counter
+told_fate rulings.Missing verdict counter told e = absurd cc
+told_fate rulings.Silent verdict counter told e = absurd cc
+told_fate (rulings.Says v c) verdict counter told e = told.told verdict counter cc
+
+told_whole : (long : Bool) (answer : Ruling) (verdict : Verdict) (counter : Counter) → IsTold answer → (if long then fate_of answer else Short) ≡ Says verdict counter → Tells verdict counter
+told_whole true answer verdict counter told e = told_fate answer verdict counter told e
+told_whole false answer verdict counter told e = absurd cc
+
+pub policy-tells : (basis : Basis) (age : ℕ) (frame : List ℕ) (verdict : Verdict) (counter : Counter) → policy basis age frame ≡ Says verdict counter → Tells verdict counter
+policy-tells basis age frame verdict counter e = told_whole (nat_lt 14 (length frame)) (first_of (questions basis age frame)) verdict counter (told_questions basis age frame) e
+
+-- ---- the last question
+
+later_answers : (first later : Ruling) → later ≢ rulings.Silent → otherwise first later ≢ rulings.Silent
+later_answers rulings.Missing later answers e = absurd cc
+later_answers rulings.Silent later answers e = answers e
+later_answers (rulings.Says v c) later answers e = absurd cc
+
+others_answer : (mac : Option (List ℕ)) → otherwise (reading mac (λ m. if bytes_eq m broadcast then rulings.Says Drop DroppedEthBroadcast else rulings.Says Pass PassedNonIpUnicast)) rulings.Silent ≢ rulings.Silent
+others_answer None e = absurd cc
+others_answer (Some m) e = go (bytes_eq m broadcast) e
+  where
+    go : (b : Bool) → otherwise (if b then rulings.Says Drop DroppedEthBroadcast else rulings.Says Pass PassedNonIpUnicast) rulings.Silent ≡ rulings.Silent → ⊥
+    go true e = absurd cc
+    go false e = absurd cc
+
+pub questions-answer : (basis : Basis) (age : ℕ) (frame : List ℕ) → first_of (questions basis age frame) ≢ rulings.Silent
+questions-answer basis age frame =
+    later_answers (link basis frame) _ (later_answers (arp basis frame) _ (later_answers (ip4 frame) _ (later_answers (ip6 frame) _ (others_answer (destination frame)))))
+
+short_fate : (long : Bool) (answer : Ruling) → (if long then fate_of answer else Short) ≡ Short → long ≡ false
+short_fate false answer e = refl
+short_fate true rulings.Missing e = absurd cc
+short_fate true rulings.Silent e = absurd cc
+short_fate true (rulings.Says v c) e = absurd cc
+
+pub policy-short : (basis : Basis) (age : ℕ) (frame : List ℕ) → policy basis age frame ≡ Short → length frame ≤ 14
+policy-short basis age frame e = ltb-false 14 (length frame) (short_fate (nat_lt 14 (length frame)) (first_of (questions basis age frame)) e)

@@ -1,0 +1,56 @@
+-- The lines of the question on IPv6, each a definition that is named for the frames that it answers.
+use Rattle.std.specs.Prelude.{ℕ, ◌==◌, not, if◌then◌else◌, List, [], ◌∷◌, ◌++◌, replicate, bytes_eq, Option}
+use Rattle.apf_coding.specs.declared.machine.Verdict.TheVariants.{Pass, Drop}
+use Rattle.data_counters.specs.declared.counter.Counter.TheVariants.{PassedIpv6NonIcmp, PassedIpv6UnicastNonIcmp, PassedIpv6Icmp, DroppedIpv6RouterSolicitation, DroppedIpv6MulticastNa, DroppedIpv6Multicast}
+use Rattle.frame_views.specs.Fields.{field, part}
+use Rattle.policy_state.specs.declared.basis.Basis.{Basis}
+use Rattle.policy_state.specs.declared.ruling.Ruling.{Ruling}
+use Rattle.policy_state.specs.declared.ruling.Ruling.TheVariants.{Says}
+use Rattle.policy_state.specs.Asking.{reading, when, first_of}
+
+-- ---- the IPv6 header and the ICMPv6 message
+
+abbrev pub next_header : List ℕ → Option ℕ
+next_header frame = field frame 20 1
+
+abbrev pub icmp_type : List ℕ → Option ℕ
+icmp_type frame = field frame 54 1
+
+-- ---- what multicast is filtered by
+
+-- by the destination address's first byte
+abbrev pub by_destination : List ℕ → Ruling
+by_destination frame = reading (field frame 38 1) (λ b.
+    if b == 0xff then Says Drop DroppedIpv6Multicast else Says Pass PassedIpv6UnicastNonIcmp)
+
+-- packets other than ICMPv6, and echo requests to a host that dozes
+abbrev pub ip6_multicast : Basis → List ℕ → Ruling
+ip6_multicast basis frame = when basis.state.multicast
+    (reading (next_header frame) (λ n.
+    if n == 58 then when basis.state.doze (reading (icmp_type frame) (λ kind. when (kind == 128) (by_destination frame)))
+    else by_destination frame))
+
+-- ---- ICMPv6 messages
+
+abbrev pub ip6_other_than_icmp : List ℕ → Ruling
+ip6_other_than_icmp frame = reading (next_header frame) (λ n. when (not (n == 58)) (Says Pass PassedIpv6NonIcmp))
+
+abbrev pub router_solicitations : List ℕ → Ruling
+router_solicitations frame = reading (icmp_type frame) (λ kind. when (kind == 133) (Says Drop DroppedIpv6RouterSolicitation))
+
+-- ff02::1
+abbrev pub all_nodes : List ℕ
+all_nodes = 0xff ∷ 0x02 ∷ (replicate 13 0 ++ 1 ∷ [])
+
+abbrev pub advertisements_to_all_nodes : List ℕ → Ruling
+advertisements_to_all_nodes frame = reading (icmp_type frame) (λ kind. when (kind == 136)
+    (reading (part frame 38 16) (λ destination. when (bytes_eq destination all_nodes) (Says Drop DroppedIpv6MulticastNa))))
+
+abbrev pub ip6_lines : Basis → List ℕ → Ruling
+ip6_lines basis frame = first_of (
+    ip6_multicast basis frame
+    ∷ ip6_other_than_icmp frame
+    ∷ router_solicitations frame
+    ∷ advertisements_to_all_nodes frame
+    ∷ Says Pass PassedIpv6Icmp
+    ∷ [])

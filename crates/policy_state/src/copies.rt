@@ -1,0 +1,35 @@
+//! Copies of what holds a list.
+
+ghost use Rattle.std.specs.Prelude.{◌≡◌, IfOk};
+
+use crate::{Basis, Config};
+use apf_base::{List, OutOfMemory};
+use std::alloc::Global;
+
+impl Config {
+    /// An equal configuration.
+    pub fn copy(&self, alloc: Global) -> Result<Config, OutOfMemory>
+        ensures { IfOk result (λ copy. copy ≡ self.now) }
+    {
+        let mut deny = List::new(alloc);
+        deny.extend(self.deny.as_slice())?;
+        Ok(Config {
+            mac: self.mac,
+            capacity: self.capacity,
+            drop_802_3: self.drop_802_3,
+            deny,
+        })
+    }
+}
+
+impl Basis {
+    /// An equal basis.
+    pub fn copy(&self, alloc: Global) -> Result<Basis, OutOfMemory>
+        ensures { IfOk result (λ copy. copy ≡ self.now) }
+    {
+        Ok(Basis {
+            config: self.config.copy(alloc)?,
+            state: self.state,
+        })
+    }
+}

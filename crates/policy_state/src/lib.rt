@@ -1,0 +1,27 @@
+//! The state of a packet filter, and the policy that says what becomes of a frame.
+//!
+//! An update changes the state or is refused, and a refusal changes nothing. The policy is a list of questions on header
+//! fields: the first answer is a frame's verdict, with one counter that says why, and a frame that lacks a field passes.
+#![tactic(auto)]
+
+mod arp;
+mod basis;
+mod config;
+mod copies;
+mod deciding;
+mod laws;
+mod link;
+mod ruling;
+mod sharing;
+mod state;
+#[cfg(test)]
+mod tests;
+mod update;
+
+pub use basis::{Answer, Basis, Script, Timed, UpdateReply};
+pub use config::Config;
+pub use deciding::decide;
+pub use laws::{counters_tell_verdicts, questions_are_answered};
+pub use sharing::types_are_shared;
+pub use state::{Address, FilterState, Keepalive};
+pub use update::{Changed, StateError, Update};
