@@ -20,3 +20,4 @@ pub mod TextItems
 pub mod TextLaws
 pub mod TextShapes
 pub mod TextKnowing
+pub mod TextCutting

@@ -402,7 +402,7 @@ byte_again b lt = rw (below-decimal 256 b lt (omega arith)) refl
 
 -- ---- dotted lines again
 
-word_from : (n w : ℕ) → IsWidth w → n < 256 ^ w → IsWord n
+pub word_from : (n w : ℕ) → IsWidth w → n < 256 ^ w → IsWord n
 word_from n w width lt = elim width [
   | inl p ↦ let small : n < 256 ^ 0 = subst (λ (k : ℕ). n < 256 ^ k) p lt in omega arith
   | inr (inl p) ↦ let small : n < 256 ^ 1 = subst (λ (k : ℕ). n < 256 ^ k) p lt in omega arith
