@@ -6,3 +6,4 @@ pub mod Parts
 pub mod Lengths
 pub mod Printed
 pub mod Uniqueness
+pub mod Relisted

@@ -6,6 +6,6 @@ mod laws;
 mod listing;
 mod printing;
 
-pub use laws::listings_are_determined;
+pub use laws::{assembled_codes_are_listed, listings_are_determined};
 pub use listing::{Line, list};
 pub use printing::print;
