@@ -1,0 +1,74 @@
+-- What was printed is the listing's text, and it is read back.
+use Rattle.std.proofs.Common.{◌≡◌, ℕ, ◌+◌, ◌*◌, ◌<◌, ◌≤◌, List, [], ◌∷◌, ◌++◌, map, length, drop, Result, Ok, Err, refl, sym, ap, subst, ◌∙◌, arith}
+use Rattle.std.specs.Prelude.{OnOk}
+use Rattle.std.specs.List.{AllByRecursion, flat_map}
+use Rattle.std.proofs.lemmas.List.{drop_at, length-append}
+use Rattle.apf_coding.proofs.Numbers.{AreBytes}
+use Rattle.apf_asm.specs.TextLines.{Reads}
+use Rattle.apf_asm.proofs.TextShapes.{text_shape}
+use Rattle.apf_disasm.specs.declared.listing.Line.{Line}
+use Rattle.apf_disasm.specs.Listing as listing
+use Rattle.apf_disasm.specs.Listing.{Entry, entry_of, Lists, IsListing}
+use Rattle.apf_disasm.specs.Printing.{line_text, listing_text, written, AppendsListing}
+use Rattle.apf_disasm.specs.ReadingBack.{ReadsBack}
+use Rattle.apf_disasm.proofs.Entries.{IsGood, entries_good}
+use Rattle.apf_disasm.proofs.Layouts.{items_of, layout_is, accepted}
+use Rattle.apf_disasm.proofs.Lines.{entries_read}
+use Rattle.apf_disasm.proofs.Lengths.{listing_length}
+use Rattle.apf_disasm.proofs.Parts.{written_is}
+
+all_written : (size : ℕ) (entries : List Entry) → AllByRecursion (IsGood size) entries → flat_map written entries ≡ listing_text entries
+all_written size [] good = refl
+all_written size (e ∷ rest) good = ap (λ (t : List ℕ). t ++ flat_map written rest) (written_is e good.0.allowed) ∙ ap (λ (t : List ℕ). line_text e ++ t) (all_written size rest good.1)
+
+pub appends : {E : Type 0} (r : Result (Unit {0}) E) (code old new : List ℕ) (lines : List Line) → AreBytes code → length code ≤ 65535 → IsListing code (map entry_of lines)
+    → OnOk r (new ≡ old ++ flat_map written (map entry_of lines)) → OnOk r (AppendsListing code old new)
+appends (Ok done) code old new lines fits long l e =
+    record { entries = map entry_of lines; listed = l; appended = e ∙ ap (λ (t : List ℕ). old ++ t) (all_written (length code) (map entry_of lines) (entries_good code 0 (map entry_of lines) fits long l)) }
+appends (Err x) code old new lines fits long l e = tt
+
+same_end : (old a b : List ℕ) → old ++ a ≡ old ++ b → a ≡ b
+same_end old a b e = sym (drop_at old a (length old) refl) ∙ ap (drop (length old)) e ∙ drop_at old b (length old) refl
+
+text_is : (code old new text : List ℕ) (p : AppendsListing code old new) → new ≡ old ++ text → text ≡ listing_text p.entries
+text_is code old new text p e = same_end old text (listing_text p.entries) (sym e ∙ p.appended)
+
+few_items : (code : List ℕ) (at : ℕ) (entries : List Entry) → Lists code at entries → length entries + at ≤ length code
+few_items code at [] l = let end = l in omega arith
+few_items code at (listing.Op place i ∷ rest) l =
+    let more = few_items code l.1.0 rest l.1.2 in
+    let order = l.1.1.order in
+    omega arith
+few_items code at (listing.Byte place value ∷ rest) l =
+    let more = few_items code (at + 1) rest l.3 in
+    omega arith
+
+count_items : (entries : List Entry) → length (items_of entries) ≡ length entries
+count_items [] = refl
+count_items (e ∷ rest) = let more = count_items rest in omega arith
+
+pub reads_back : (code old new text : List ℕ) → AreBytes code → length code ≤ 65535 → AppendsListing code old new → new ≡ old ++ text → ReadsBack text code
+reads_back code old new text fits long p e =
+    let good = entries_good code 0 p.entries fits long p.listed in
+    let read : Reads text (items_of p.entries) = subst (λ (t : List ℕ). Reads t (items_of p.entries)) (sym (text_is code old new text p e)) (entries_read (length code) p.entries long good) in
+    let few = few_items code 0 p.entries p.listed in
+    let count = count_items p.entries in
+    record {
+      items = items_of p.entries;
+      read = read;
+      forms = text_shape text (items_of p.entries) read;
+      few = omega arith;
+      accepted = accepted code p.entries p.listed long;
+      bytes = layout_is code p.entries p.listed;
+    }
+
+pub short : (code old new text : List ℕ) → AreBytes code → length code ≤ 65535 → AppendsListing code old new → new ≡ old ++ text → length code ≤ 40000 → length text ≤ 1048576
+short code old new text fits long p e small =
+    let good = entries_good code 0 p.entries fits long p.listed in
+    let bound = listing_length code p.entries long p.listed good in
+    let same = ap length (text_is code old new text p e) in
+    omega arith
+
+pub on_ok_more : {E : Type 0} (r : Result (Unit {0}) E) (P Q : Type 0) → OnOk r P → (P → Q) → OnOk r Q
+on_ok_more (Ok done) P Q p more = more p
+on_ok_more (Err x) P Q p more = tt

@@ -1,0 +1,29 @@
+-- The instructions of items that are laid out, each with its place.
+use Rattle.std.specs.Prelude.{ℕ, ◌+◌, List, [], ◌∷◌, ◌++◌}
+use Rattle.apf_asm.specs.declared.item.Item.{Item}
+use Rattle.apf_asm.specs.declared.item.Item.TheVariants as items
+use Rattle.apf_asm.specs.Items.{fixed_instruction, jump_instruction}
+use Rattle.apf_asm.specs.Layout.{size, item_offset, item_widths}
+use Rattle.apf_disasm.specs.Listing as listing
+use Rattle.apf_disasm.specs.Listing.{Entry}
+
+-- an item that is a byte as it stands is none of the instructions
+abbrev pub IsNoByte : Item → Type 0
+IsNoByte (items.Byte b) = ⊥
+IsNoByte _ = Unit {0}
+
+-- the instruction of an item at a place, where a jump has this width and this offset
+abbrev pub instruction_of : Item → ℕ → ℕ → ℕ → List Entry
+instruction_of (items.Fixed f) at width offset = listing.Op at (fixed_instruction f) ∷ []
+instruction_of (items.Jump j) at width offset = listing.Op at (jump_instruction j width offset) ∷ []
+instruction_of (items.Label l) at width offset = []
+instruction_of (items.Byte b) at width offset = []
+
+-- the instructions from a place on, where the items have these widths
+unfoldable pub instructions_from : ℕ → List Item → List ℕ → List Entry
+instructions_from at [] widths = []
+instructions_from at (item ∷ rest) [] = []
+instructions_from at (item ∷ rest) (w ∷ widths) = instruction_of item at w (item_offset item rest widths) ++ instructions_from (at + size item w) rest widths
+
+abbrev pub instructions_of : List Item → List Entry
+instructions_of items = instructions_from 0 items (item_widths items)

@@ -1,0 +1,4 @@
+pub mod Listing
+pub mod Printing
+pub mod ReadingBack
+pub mod Assembled
