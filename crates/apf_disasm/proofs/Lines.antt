@@ -39,7 +39,7 @@ entries_read size (e ∷ rest) long good =
     let small : place_of e < 2 ^ 32 = omega arith in
     let comment = comment_printable e small in
     let lines : lines_of (listing_text (e ∷ rest)) ≡ line_of e ∷ lines_of (listing_text rest) =
-        ap lines_of (line_text_is e (listing_text rest)) ∙ lines_of-line (line_of e) (listing_text rest) (commented_printable (words_of (form_of e)) (place_comment e) (form_plain (form_of e) good.0.allowed) comment) in
+    ap lines_of (line_text_is e (listing_text rest)) ∙ lines_of-line (line_of e) (listing_text rest) (commented_printable (words_of (form_of e)) (place_comment e) (form_plain (form_of e) good.0.allowed) comment) in
     let read : AreRead (line_of e ∷ lines_of (listing_text rest)) (items_of (e ∷ rest)) =
-        (Some (item_of (form_of e)), items_of rest, form_read (form_of e) (place_comment e) good.0.allowed comment, entries_read size rest long good.1, refl) in
+    (Some (item_of (form_of e)), items_of rest, form_read (form_of e) (place_comment e) good.0.allowed comment, entries_read size rest long good.1, refl) in
     subst (λ (ls : List (List ℕ)). AreRead ls (items_of (e ∷ rest))) (sym lines) read

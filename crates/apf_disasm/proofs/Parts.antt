@@ -73,5 +73,5 @@ unfolding line_text
 written_is (listing.Op at i) allowed = op_written at i allowed.0 ∙ whole (join_with_byte 32 (words_of (Dotted i))) (decimal at)
 written_is (listing.Byte at value) allowed = byte_whole (decimal value) (decimal at)
   where
-  byte_whole : (value at : List ℕ) → codes ".byte " ++ value ++ (codes " ; at " ++ at ++ 10 ∷ []) ≡ (codes ".byte" ++ (32 ∷ value)) ++ codes " ; at " ++ at ++ 10 ∷ []
-  byte_whole value at = simp append_assoc
+    byte_whole : (value at : List ℕ) → codes ".byte " ++ value ++ (codes " ; at " ++ at ++ 10 ∷ []) ≡ (codes ".byte" ++ (32 ∷ value)) ++ codes " ; at " ++ at ++ 10 ∷ []
+    byte_whole value at = simp append_assoc

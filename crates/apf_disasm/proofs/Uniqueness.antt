@@ -59,7 +59,7 @@ lists_from zero code at fits within left = ([], omega arith)
 lists_from (suc fuel) code at fits within left = elim (cases_lt at (length code)) [
   | inl inside ↦ turn fuel code at (instruction_at code at) fits inside refl (λ next later inside. lists_from fuel code next fits inside (omega arith))
   | inr end ↦ ([], omega arith)
-  ]
+]
 
 pub some_listing : (code : List ℕ) → AreBytes code → (entries : List Entry) × IsListing code entries
 some_listing code fits = lists_from (length code) code 0 fits (omega arith) (omega arith)
