@@ -1,5 +1,5 @@
 -- A listing has at most 26 bytes for a byte of code.
-use Rattle.std.proofs.Common.{◌≡◌, ℕ, zero, suc, ◌+◌, ◌-◌, ◌*◌, ◌^◌, ◌<◌, ◌≤◌, Bool, true, false, cond, eqb, List, [], ◌∷◌, ◌++◌, length, drop, refl, sym, ap, subst, ◌∙◌, arith, inl, inr}
+use Rattle.std.proofs.Common.{◌≡◌, ℕ, ◌+◌, ◌*◌, ◌^◌, ◌<◌, ◌≤◌, Bool, true, false, cond, eqb, List, [], ◌∷◌, ◌++◌, length, refl, ap, subst, arith, inl, inr}
 use Rattle.std.specs.Prelude.{codes}
 use Rattle.std.specs.Fmt.{decimal}
 use Rattle.std.specs.List.{AllByRecursion, flat_map}
@@ -16,7 +16,7 @@ use Rattle.apf_coding.specs.Names.{name_of}
 use Rattle.apf_coding.proofs.Numbers.{length-big_endian}
 use Rattle.apf_disasm.specs.Listing as listing
 use Rattle.apf_disasm.specs.Listing.{Entry, IsListing}
-use Rattle.apf_disasm.specs.Printing.{form_of, place_of, line_text, listing_text, second_text, counted_text, place_text, instruction_line, byte_line, written}
+use Rattle.apf_disasm.specs.Printing.{line_text, listing_text, second_text, counted_text, place_text, instruction_line, byte_line}
 use Rattle.apf_disasm.proofs.Entries.{IsGood}
 use Rattle.apf_disasm.proofs.Layouts.{bytes_of, listed_bytes}
 use Rattle.apf_disasm.proofs.Parts.{written_is}
@@ -80,7 +80,7 @@ number_length n w width lt = elim width [
   | inr (inl p) ↦ let small : n < 256 ^ 1 = subst (λ (k : ℕ). n < 256 ^ k) p lt in omega (arith, length-decimal-le 3 n (omega arith) (omega arith) (omega arith))
   | inr (inr (inl p)) ↦ let small : n < 256 ^ 2 = subst (λ (k : ℕ). n < 256 ^ k) p lt in omega (arith, length-decimal-le 5 n (omega arith) (omega arith) (omega arith))
   | inr (inr (inr p)) ↦ let small : n < 256 ^ 4 = subst (λ (k : ℕ). n < 256 ^ k) p lt in omega (arith, length-decimal-le 10 n (omega arith) (omega arith) (omega arith))
-  ]
+]
 
 one_digit : (n : ℕ) → n < 10 → length (decimal n) ≤ 1
 one_digit n lt = length-decimal-le 1 n (omega arith) (omega arith) (omega arith)
@@ -107,20 +107,27 @@ spelling_length i =
     let imm = length-big_endian i.width i.imm in
     omega (arith, length-append (first_byte i ∷ big_endian i.width i.imm ++ second_of i) (counted_of i), length-append (first_byte i ∷ big_endian i.width i.imm) (second_of i))
   where
-  told : (b : Bool) → length (cond b (big_endian i.width i.second) []) ≡ cond b i.width 0
-  told true = length-big_endian i.width i.second
-  told false = refl
+    told : (b : Bool) → length (cond b (big_endian i.width i.second) []) ≡ cond b i.width 0
+    told true = length-big_endian i.width i.second
+    told false = refl
 
-  tailed : (b : Bool) → length (cond b (big_endian i.width (length i.bytes) ++ i.bytes) []) ≡ cond b (i.width + length i.bytes) 0
-  tailed true = let count = length-big_endian i.width (length i.bytes) in omega (arith, length-append (big_endian i.width (length i.bytes)) i.bytes)
-  tailed false = refl
+    tailed : (b : Bool) → length (cond b (big_endian i.width (length i.bytes) ++ i.bytes) []) ≡ cond b (i.width + length i.bytes) 0
+    tailed true = let count = length-big_endian i.width (length i.bytes) in omega (arith, length-append (big_endian i.width (length i.bytes)) i.bytes)
+    tailed false = refl
 
 -- ---- a line
 
 head_length : (name width reg imm : List ℕ) → length (name ++ codes "." ++ width ++ codes " r" ++ reg ++ codes " " ++ imm) ≡ length name + length width + length reg + length imm + 4
 head_length name width reg imm =
-    omega (arith, length-append (name ++ codes "." ++ width ++ codes " r" ++ reg ++ codes " ") imm, length-append (name ++ codes "." ++ width ++ codes " r" ++ reg) (codes " "), length-append (name ++ codes "." ++ width ++ codes " r") reg,
-      length-append (name ++ codes "." ++ width) (codes " r"), length-append (name ++ codes ".") width, length-append name (codes "."))
+    omega (
+      arith,
+      length-append (name ++ codes "." ++ width ++ codes " r" ++ reg ++ codes " ") imm,
+      length-append (name ++ codes "." ++ width ++ codes " r" ++ reg) (codes " "),
+      length-append (name ++ codes "." ++ width ++ codes " r") reg,
+      length-append (name ++ codes "." ++ width) (codes " r"),
+      length-append (name ++ codes ".") width,
+      length-append name (codes "."),
+    )
 
 -- at most 26 bytes of text for a byte of code, by whether there is a second immediate and counted bytes
 fits_26 : (has count : Bool) (name w d r n s b p size bytes : ℕ) → (has ≡ true → count ≡ false) → (count ≡ false → name ≤ 4) → name ≤ 5 → d ≤ 1 → r ≤ 1 → n ≤ 1 + 5 * w → s ≤ cond has (2 + 5 * w) 0 → b ≤ cond count (2 + 2 * bytes) 0 → p ≤ 12
@@ -170,10 +177,10 @@ line_length at i good place =
     let front : List ℕ = name_of i.op ++ codes "." ++ decimal i.width ++ codes " r" ++ decimal i.reg ++ codes " " ++ decimal i.imm in
     let head = head_length (name_of i.op) (decimal i.width) (decimal i.reg) (decimal i.imm) in
     let sum : length (instruction_line at i) ≡ length front + length (second_text i) + length (counted_text i) + length (place_text at) =
-        omega (arith, length-append (front ++ second_text i ++ counted_text i) (place_text at), length-append (front ++ second_text i) (counted_text i), length-append front (second_text i)) in
+    omega (arith, length-append (front ++ second_text i ++ counted_text i) (place_text at), length-append (front ++ second_text i) (counted_text i), length-append front (second_text i)) in
     let bound = fits_26 (has_second i.op i.reg) (is_counted i.op) (length (name_of i.op)) i.width (length (decimal i.width)) (length (decimal i.reg)) (length (decimal i.imm)) (length (second_text i)) (length (counted_text i)) (length (place_text at)) (length (spelling i)) (length i.bytes)
-        (apart i.op i.reg) (name_short i.op) (five i.op (is_counted i.op) refl) (one_digit i.width small) (one_digit i.reg (omega arith)) (number_length i.imm i.width width good.imm)
-        (second_length (has_second i.op i.reg) i.second i.width width good.second) (counted_length (is_counted i.op) i.bytes good.no_bytes) (place_length at place) (spelling_length i) in
+    (apart i.op i.reg) (name_short i.op) (five i.op (is_counted i.op) refl) (one_digit i.width small) (one_digit i.reg (omega arith)) (number_length i.imm i.width width good.imm)
+    (second_length (has_second i.op i.reg) i.second i.width width good.second) (counted_length (is_counted i.op) i.bytes good.no_bytes) (place_length at place) (spelling_length i) in
     omega arith
 
 byte_length : (at value : ℕ) → value < 256 → at < 100000 → length (byte_line at value) ≤ 26

@@ -1,14 +1,12 @@
 -- The text of a listing is read line by line as its items.
-use Rattle.std.proofs.Common.{◌≡◌, ℕ, zero, suc, ◌+◌, ◌^◌, ◌<◌, ◌≤◌, Bool, true, false, cond, List, [], ◌∷◌, ◌++◌, length, Some, refl, sym, ap, subst, ◌∙◌, append_assoc, arith}
+use Rattle.std.proofs.Common.{◌≡◌, ℕ, ◌^◌, ◌<◌, ◌≤◌, true, List, [], ◌∷◌, ◌++◌, Some, refl, sym, ap, subst, ◌∙◌, append_assoc, arith}
 use Rattle.std.specs.Prelude.{codes}
 use Rattle.std.specs.Fmt.{decimal}
-use Rattle.std.specs.List.{AllByRecursion, flat_map, join_with_byte, list_all}
-use Rattle.std.specs.Option.{option_to_list}
+use Rattle.std.specs.List.{AllByRecursion, join_with_byte, list_all}
 use Rattle.std.proofs.lemmas.Bool.{and_from}
-use Rattle.std.proofs.lemmas.List.{append-nil}
 use Rattle.std.proofs.lemmas.List.Folds.{list_all-append}
 use Rattle.apf_asm.specs.TextForms.{words_of, item_of}
-use Rattle.apf_asm.specs.TextLines.{is_printable, lines_of, IsRead, AreRead, Reads}
+use Rattle.apf_asm.specs.TextLines.{is_printable, lines_of, AreRead}
 use Rattle.apf_asm.proofs.TextCutting.{commented, commented_printable, form_plain, form_read, lines_of-line, digits_printable}
 use Rattle.apf_disasm.specs.Listing.{Entry}
 use Rattle.apf_disasm.specs.Printing.{form_of, place_of, line_text, listing_text}
@@ -39,7 +37,7 @@ entries_read size (e ∷ rest) long good =
     let small : place_of e < 2 ^ 32 = omega arith in
     let comment = comment_printable e small in
     let lines : lines_of (listing_text (e ∷ rest)) ≡ line_of e ∷ lines_of (listing_text rest) =
-        ap lines_of (line_text_is e (listing_text rest)) ∙ lines_of-line (line_of e) (listing_text rest) (commented_printable (words_of (form_of e)) (place_comment e) (form_plain (form_of e) good.0.allowed) comment) in
+    ap lines_of (line_text_is e (listing_text rest)) ∙ lines_of-line (line_of e) (listing_text rest) (commented_printable (words_of (form_of e)) (place_comment e) (form_plain (form_of e) good.0.allowed) comment) in
     let read : AreRead (line_of e ∷ lines_of (listing_text rest)) (items_of (e ∷ rest)) =
-        (Some (item_of (form_of e)), items_of rest, form_read (form_of e) (place_comment e) good.0.allowed comment, entries_read size rest long good.1, refl) in
+    (Some (item_of (form_of e)), items_of rest, form_read (form_of e) (place_comment e) good.0.allowed comment, entries_read size rest long good.1, refl) in
     subst (λ (ls : List (List ℕ)). AreRead ls (items_of (e ∷ rest))) (sym lines) read

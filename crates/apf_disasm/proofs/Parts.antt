@@ -1,17 +1,16 @@
 -- A line by its parts is the line of its words.
-use Rattle.std.proofs.Common.{◌≡◌, ℕ, zero, suc, ◌+◌, ◌<◌, ◌≤◌, Bool, true, false, cond, List, [], ◌∷◌, ◌++◌, refl, sym, ap, ◌∙◌, append_assoc, arith, inl, inr}
+use Rattle.std.proofs.Common.{◌≡◌, ℕ, ◌+◌, ◌<◌, Bool, true, false, cond, List, [], ◌∷◌, ◌++◌, refl, sym, ap, ◌∙◌, append_assoc, arith, inl, inr}
 use Rattle.std.specs.Prelude.{codes}
 use Rattle.std.specs.Fmt.{decimal}
 use Rattle.std.specs.List.{join_with_byte}
 use Rattle.std.proofs.lemmas.Fmt.{decimal_digit}
 use Rattle.std.proofs.lemmas.List.{append-nil}
-use Rattle.hex.specs.Hex.{encode_lower}
 use Rattle.apf_coding.specs.Instruction.{Instruction, IsWidth, IsWellFormed, has_second, is_counted}
 use Rattle.apf_coding.specs.Names.{name_of}
-use Rattle.apf_asm.specs.TextForms.{Dotted, Byte, words_of, register_word, dotted_word, hex_word, second_words, counted_words, IsAllowed}
+use Rattle.apf_asm.specs.TextForms.{Dotted, words_of, register_word, dotted_word, hex_word, second_words, counted_words, IsAllowed}
 use Rattle.apf_disasm.specs.Listing as listing
 use Rattle.apf_disasm.specs.Listing.{Entry}
-use Rattle.apf_disasm.specs.Printing.{form_of, line_text, second_text, counted_text, place_text, instruction_line, byte_line, written}
+use Rattle.apf_disasm.specs.Printing.{form_of, line_text, second_text, counted_text, place_text, instruction_line, written}
 
 -- words with a space before each
 spaced : List (List ℕ) → List ℕ
@@ -73,5 +72,5 @@ unfolding line_text
 written_is (listing.Op at i) allowed = op_written at i allowed.0 ∙ whole (join_with_byte 32 (words_of (Dotted i))) (decimal at)
 written_is (listing.Byte at value) allowed = byte_whole (decimal value) (decimal at)
   where
-  byte_whole : (value at : List ℕ) → codes ".byte " ++ value ++ (codes " ; at " ++ at ++ 10 ∷ []) ≡ (codes ".byte" ++ (32 ∷ value)) ++ codes " ; at " ++ at ++ 10 ∷ []
-  byte_whole value at = simp append_assoc
+    byte_whole : (value at : List ℕ) → codes ".byte " ++ value ++ (codes " ; at " ++ at ++ 10 ∷ []) ≡ (codes ".byte" ++ (32 ∷ value)) ++ codes " ; at " ++ at ++ 10 ∷ []
+    byte_whole value at = simp append_assoc

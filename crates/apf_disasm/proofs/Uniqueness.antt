@@ -1,5 +1,5 @@
 -- A code has one listing.
-use Rattle.std.proofs.Common.{◌≡◌, ℕ, zero, suc, ◌+◌, ◌-◌, ◌<◌, ◌≤◌, List, [], ◌∷◌, length, get_or, Option, Some, None, refl, sym, ap, subst, ◌∙◌, arith, inl, inr}
+use Rattle.std.proofs.Common.{◌≡◌, ℕ, zero, suc, ◌+◌, ◌-◌, ◌<◌, ◌≤◌, List, [], ◌∷◌, length, get_or, Option, Some, None, refl, sym, subst, ◌∙◌, arith, inl, inr}
 use Rattle.std.specs.Prelude.{slice_get}
 use Rattle.std.proofs.lemmas.Bool.{cases_lt}
 use Rattle.std.proofs.lemmas.Option.{slice_get_within, slice_get-get_or, some_pair_parts}
@@ -59,7 +59,7 @@ lists_from zero code at fits within left = ([], omega arith)
 lists_from (suc fuel) code at fits within left = elim (cases_lt at (length code)) [
   | inl inside ↦ turn fuel code at (instruction_at code at) fits inside refl (λ next later inside. lists_from fuel code next fits inside (omega arith))
   | inr end ↦ ([], omega arith)
-  ]
+]
 
 pub some_listing : (code : List ℕ) → AreBytes code → (entries : List Entry) × IsListing code entries
 some_listing code fits = lists_from (length code) code 0 fits (omega arith) (omega arith)

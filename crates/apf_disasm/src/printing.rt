@@ -78,11 +78,7 @@ fn line_text(alloc: Global, line: &Line<'_>) -> Result<String, AllocError>
 }
 
 /// Appends the texts of lines. An `Err` leaves a part of them.
-fn append_lines(
-    alloc: Global,
-    lines: &[Line<'_>],
-    out: &mut List<u8>,
-) -> Result<(), OutOfMemory>
+fn append_lines(alloc: Global, lines: &[Line<'_>], out: &mut List<u8>) -> Result<(), OutOfMemory>
     ensures ok { OnOk result (out.new ≡ out.old ++ flat_map written (map entry_of lines.now)) }
     ensures err { OnErr result (Extends out.old out.new) }
 {
