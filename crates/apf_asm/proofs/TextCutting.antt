@@ -134,7 +134,7 @@ width_plain w width = elim width [
   | inr (inl e) ↦ ap (λ (k : ℕ). list_all is_word_byte ((48 + k) ∷ [])) e
   | inr (inr (inl e)) ↦ ap (λ (k : ℕ). list_all is_word_byte ((48 + k) ∷ [])) e
   | inr (inr (inr e)) ↦ ap (λ (k : ℕ). list_all is_word_byte ((48 + k) ∷ [])) e
-  ]
+]
 
 dotted_plain : (op : Op) (w : ℕ) → IsWidth w → IsPlain (dotted_word op w)
 dotted_plain op w width = plain-append (name_of op ++ codes ".") ((48 + w) ∷ []) (plain-append (name_of op) (codes ".") (name_plain op) refl) (width_plain w width)
@@ -171,10 +171,18 @@ form_plain (Compare op n to) a = (name_plain op, (word_plain n a.1, (target_plai
 form_plain (CompareR1 op to) a = (name_plain op, (register_plain 1 (omega arith), (target_plain to a.1, tt)))
 form_plain (CompareBytes bytes to) a = (name_plain Jnebs, (hex_plain bytes a.0, (target_plain to a.3, tt)))
 form_plain (Dotted i) a =
-    let good = a.0 in
-    (dotted_plain i.op i.width good.width, (register_plain i.reg good.reg, (word_plain i.imm (word_from i.imm i.width good.width good.imm), all-append (second_words i) (counted_words i)
-    (if_plain (has_second i.op i.reg) (decimal i.second) (word_plain i.second (word_from i.second i.width good.width good.second)))
-    (if_plain (is_counted i.op) (hex_word i.bytes) (hex_plain i.bytes a.1)))))
+    let good = a.0 in (
+      dotted_plain i.op i.width good.width,
+      (
+        register_plain i.reg good.reg,
+        (
+          word_plain i.imm (word_from i.imm i.width good.width good.imm),
+          all-append (second_words i) (counted_words i)
+              (if_plain (has_second i.op i.reg) (decimal i.second) (word_plain i.second (word_from i.second i.width good.width good.second)))
+              (if_plain (is_counted i.op) (hex_word i.bytes) (hex_plain i.bytes a.1)),
+        ),
+      ),
+    )
 form_plain (Byte b) a = let small = a in (record { some = omega arith; plain = refl }, (word_plain b (omega arith), tt))
 
 form_some : (f : Form) → 0 < length (words_of f)
@@ -213,8 +221,8 @@ split_word (x ∷ word) rest e =
     let parts = and_parts (not (eqb x 32)) (list_all (λ b. not (eqb b 32)) word) e in
     rw (not_from x parts.0, split_word word rest parts.1) refl
   where
-  not_from : (b : ℕ) → not (eqb b 32) ≡ true → eqb b 32 ≡ false
-  not_from b e = grind (arith, nat_tests)
+    not_from : (b : ℕ) → not (eqb b 32) ≡ true → eqb b 32 ≡ false
+    not_from b e = grind (arith, nat_tests)
 
 regroup : (x y : List ℕ) → (x ++ (32 ∷ y)) ++ 32 ∷ [] ≡ x ++ (32 ∷ (y ++ 32 ∷ []))
 regroup x y = append_assoc x (32 ∷ y) (32 ∷ [])

@@ -10,4 +10,4 @@ mod tests;
 
 pub use laws::{assembled_codes_are_listed, listings_are_determined};
 pub use listing::{Line, list};
-pub use printing::print;
+pub use printing::{line_text, print};

@@ -67,8 +67,8 @@ fn byte_line(alloc: Global, at: u32, value: u8) -> Result<String, AllocError>
     Ok(line)
 }
 
-/// The text of a line.
-fn line_text(alloc: Global, line: &Line<'_>) -> Result<String, AllocError>
+/// The text of a line, as it stands in the listing, with its line feed. For a line of a listing it is its text there.
+pub fn line_text(alloc: Global, line: &Line<'_>) -> Result<String, AllocError>
     ensures { IfOk result (λ text. string_bytes text ≡ written (entry_of line.now)) }
 {
     match line {

@@ -1,5 +1,5 @@
--- How `asm` is to end, where the text that it reads is told, and what it writes.
-use Rattle.std.specs.Prelude.{ℕ, List, [], ◌∷◌, length, nat_lt, Option, None, Some, Result, Ok, Err, if◌then◌else◌}
+-- How `asm` and `disasm` are to end, where the file that they read is told, and what they write.
+use Rattle.std.specs.Prelude.{◌≡◌, map, ℕ, List, [], ◌∷◌, length, nat_lt, Option, None, Some, Result, Ok, Err, if◌then◌else◌}
 use Rattle.apf_asm.specs.declared.item.Item.{Item}
 use Rattle.apf_asm.specs.declared.item.AsmError.{AsmError}
 use Rattle.apf_asm.specs.declared.item.AsmError.TheVariants as labels
@@ -8,9 +8,13 @@ use Rattle.apf_asm.specs.declared.text_error.TextError.TheVariants as texts
 use Rattle.apf_asm.specs.Layout.{layout}
 use Rattle.apf_asm.specs.Refusals.{answer}
 use Rattle.apf_asm.specs.TextReading.{text_answer}
-use Rattle.apf_run.specs.declared.fault.Input.TheVariants.{Text}
+use Rattle.apf_disasm.specs.Listing.{Entry, IsListing}
+use Rattle.apf_disasm.specs.Printing.{line_text}
+use Rattle.apf_run.specs.declared.fault.Input.TheVariants.{Program, Text}
 use Rattle.apf_run.specs.declared.fault.Fault.{Fault}
 use Rattle.apf_run.specs.declared.fault.Fault.TheVariants.{BadText, Twice, Unknown, Backward, TooLong, CodeTooLong, OutOfMemory}
+
+-- ---- `asm`
 
 -- the end that the items have: the first label that is refused, or a code that is too long
 abbrev pub items_end : Option AsmError → Result (Unit {0}) Fault
@@ -39,3 +43,14 @@ code_lines (Err e) = []
 abbrev pub asm_output : Option (List ℕ) → Result (Unit {0}) Fault → List (List ℕ)
 asm_output (Some text) (Ok end) = code_lines (text_answer text)
 asm_output text end = []
+
+-- ---- `disasm`
+
+abbrev pub disasm_end : Option (List ℕ) → Option (Result (Unit {0}) Fault)
+disasm_end None = None
+disasm_end (Some program) = if nat_lt 65535 (length program) then Some (Err (TooLong Program)) else Some (Ok tt)
+
+-- the lines are those of the program's listing
+abbrev pub IsDisasm : Option (List ℕ) → Result (Unit {0}) Fault → List (List ℕ) → Type 0
+IsDisasm (Some program) (Ok end) lines = (entries : List Entry) × IsListing program entries × (lines ≡ map line_text entries)
+IsDisasm program end lines = lines ≡ []

@@ -1,0 +1,32 @@
+-- What a fault before the first line leaves.
+use Rattle.std.proofs.Common.{◌≡◌, ◌⊎◌, ℕ, List, [], Option, None, Some, Result, Ok, Err, IfSome, refl, sym, ap, subst, ◌∙◌, inl, inr}
+use Rattle.std.specs.Io.KnownBytes.{Keeps}
+use Rattle.std.proofs.KnownBytes.{Appends-nil}
+use Rattle.apf_run.specs.declared.fault.Fault.{Fault}
+use Rattle.apf_run.specs.Ends.{Meets, Stops, ComesFirst, exec_output}
+use Rattle.apf_run.specs.AsmEnds.{asm_output}
+
+keeps : (held : Option (List ℕ)) → Keeps held held
+keeps None = tt
+keeps (Some bytes) = refl
+
+-- a call that wrote nothing meets what is defined, where its fault is the defined end or comes before it
+pub stopped : (defined : Option (Result (Unit {0}) Fault)) (IsText : Result (Unit {0}) Fault → List (List ℕ) → Type 0) (held : Option (List ℕ)) (result : Result (Unit {0}) Fault) (fault : Fault)
+    → result ≡ Err fault → Stops defined fault → IsText (Err fault) [] → Meets defined IsText held held result
+unfolding Meets
+stopped None IsText held result fault e stops none = tt
+stopped (Some end) IsText held result fault e stops none =
+    elim stops [
+      | inl is ↦ inl (e ∙ sym is, [], subst (λ (r : Result (Unit {0}) Fault). IsText r []) (sym is) none, Appends-nil held)
+      | inr first ↦ inr (subst (λ (r : Result (Unit {0}) Fault). ComesFirst end r) (sym e) first, inl (keeps held))
+    ]
+
+-- with a fault no line is defined
+pub exec-no_lines : (program capture : Option (List ℕ)) (age : ℕ) (fault : Fault) → [] ≡ exec_output program capture age (Err fault)
+exec-no_lines None capture age fault = refl
+exec-no_lines (Some program) None age fault = refl
+exec-no_lines (Some program) (Some capture) age fault = refl
+
+pub asm-no_lines : (text : Option (List ℕ)) (fault : Fault) → [] ≡ asm_output text (Err fault)
+asm-no_lines None fault = refl
+asm-no_lines (Some text) fault = refl
