@@ -1,11 +1,11 @@
 -- A line of words, one space apart, and a comment is cut into these words again.
-use Rattle.std.proofs.Common.{◌≡◌, ℕ, zero, suc, ◌+◌, ◌/◌, ◌%◌, ◌^◌, ◌<◌, ◌≤◌, Bool, true, false, ◌&&◌, not, cond, eqb, leb, List, [], ◌∷◌, ◌++◌, length, take, slice_index, Option, Some, refl, sym, ap, subst, ◌∙◌, append_assoc, arith, inl, inr}
+use Rattle.std.proofs.Common.{◌≡◌, ℕ, zero, suc, ◌+◌, ◌/◌, ◌%◌, ◌^◌, ◌<◌, Bool, true, false, ◌&&◌, not, cond, eqb, leb, List, [], ◌∷◌, ◌++◌, length, slice_index, Some, refl, sym, ap, ◌∙◌, append_assoc, arith, inl, inr}
 use Rattle.std.specs.Prelude.{codes, filter, ℤ, pos, negsuc, FitsSigned}
 use Rattle.std.specs.Char.{is_ascii_digit}
 use Rattle.std.specs.Int.{w32}
 use Rattle.std.specs.Fmt.{decimal, signed_decimal}
-use Rattle.std.specs.List.{list_all, AllPass, AllByRecursion, slice_split, onto_first, before_first, prefix_len, position_or_len, join_with_byte}
-use Rattle.std.proofs.lemmas.Bool.{and_parts, and_from, agree_below_at, eqb-true, eqb-false, ne_eqb, not_from_false}
+use Rattle.std.specs.List.{list_all, AllByRecursion, slice_split, position_or_len, join_with_byte}
+use Rattle.std.proofs.lemmas.Bool.{and_parts, and_from, agree_below_at, ne_eqb}
 use Rattle.std.proofs.lemmas.Bool.Decides.{nat_tests}
 use Rattle.std.proofs.lemmas.Fmt.{decimal_nonempty, digits_decimal}
 use Rattle.std.proofs.lemmas.List.{length-append}
@@ -14,12 +14,11 @@ use Rattle.std.proofs.lemmas.List.Sums.{AllPass-from_list_all}
 use Rattle.hex.specs.Hex.{encode_with, encode_lower, lower_digits, IsBytes}
 use Rattle.apf_coding.specs.declared.instruction.Op.{Op}
 use Rattle.apf_coding.specs.declared.instruction.Op.TheVariants.{Ldb, Ldh, Ldw, Ldbx, Ldhx, Ldwx, Add, Mul, Div, And, Or, Sh, Li, Jmp, Jeq, Jne, Jgt, Jlt, Jset, Jnebs, Ext, Lddw, Stdw}
-use Rattle.apf_coding.specs.Instruction.{Instruction, IsWidth, has_second, is_counted}
+use Rattle.apf_coding.specs.Instruction.{IsWidth, has_second, is_counted}
 use Rattle.apf_coding.specs.Names.{name_of}
-use Rattle.apf_asm.specs.declared.item.Item.{Item}
 use Rattle.apf_asm.specs.declared.item.Target.{Target}
 use Rattle.apf_asm.specs.declared.item.Target.TheVariants as targets
-use Rattle.apf_asm.specs.TextForms.{Form, Label, Load, Arithmetic, ArithmeticR1, Shift, ShiftR1, Signed, LoadSlot, StoreSlot, Complement, Negate, Swap, Move, Jump, Compare, CompareR1, CompareBytes, Dotted, Byte, register_word, target_word, hex_word, dotted_word, second_words, counted_words, words_of, item_of, IsTarget, IsAllowed, Denotes}
+use Rattle.apf_asm.specs.TextForms.{Form, Label, Load, Arithmetic, ArithmeticR1, Shift, ShiftR1, Signed, LoadSlot, StoreSlot, Complement, Negate, Swap, Move, Jump, Compare, CompareR1, CompareBytes, Dotted, Byte, register_word, target_word, hex_word, dotted_word, second_words, counted_words, words_of, item_of, IsTarget, IsAllowed}
 use Rattle.apf_asm.specs.TextLines.{is_printable, without_comment, words_in, IsRead, lines_of}
 use Rattle.apf_asm.proofs.TextNumbers.{own}
 use Rattle.apf_asm.proofs.TextItems.{word_from}

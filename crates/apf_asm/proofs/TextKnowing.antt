@@ -1,6 +1,6 @@
 -- The known first words are those of the list.
-use Rattle.std.proofs.Common.{◌≡◌, ◌≢◌, ℕ, zero, suc, ◌+◌, ◌<◌, ◌⊎◌, true, false, List, [], ◌∷◌, ◌++◌, length, get_or, Option, Some, refl, sym, ap, subst, ◌∙◌, arith, inl, inr}
-use Rattle.std.specs.Prelude.{codes, Contains, ◌↔◌}
+use Rattle.std.proofs.Common.{◌≡◌, ◌≢◌, ℕ, zero, suc, ◌<◌, ◌⊎◌, true, List, get_or, Some, refl, sym, ap, ◌∙◌, arith, inl, inr}
+use Rattle.std.specs.Prelude.{◌↔◌}
 use Rattle.apf_coding.specs.declared.instruction.Op.{Op}
 use Rattle.apf_coding.specs.declared.instruction.Op.TheVariants.{Ldb, Ldh, Ldw, Ldbx, Ldhx, Ldwx, Add, Mul, Div, And, Or, Sh, Li, Jmp, Jeq, Jne, Jgt, Jlt, Jset, Jnebs, Ext, Lddw, Stdw}
 use Rattle.apf_coding.specs.Instruction.{is_conditional}
@@ -9,7 +9,7 @@ use Rattle.apf_asm.specs.declared.text_head.Head.{Head}
 use Rattle.apf_asm.specs.declared.text_head.Head.TheVariants as heads
 use Rattle.apf_asm.specs.TextForms.{IsKnown, is_load, is_arithmetic, is_signed}
 use Rattle.apf_asm.specs.TextKnown.{other_names, IsName, IsLabel, IsDotted}
-use Rattle.apf_asm.specs.TextReading.{op_head, head_of}
+use Rattle.apf_asm.specs.TextReading.{op_head}
 use Rattle.apf_asm.proofs.TextHeads.{IsHead, head_of_is, op_head_is}
 use Rattle.apf_asm.proofs.TextLaws.{known_from, known_head}
 

@@ -1,23 +1,23 @@
 -- The items of a text are well formed, and no more than it has bytes.
-use Rattle.std.proofs.Common.{◌≡◌, ℕ, zero, suc, ◌+◌, ◌-◌, ◌^◌, ◌<◌, ◌≤◌, ◌⊎◌, Bool, true, false, ◌&&◌, cond, eqb, ltb, List, [], ◌∷◌, ◌++◌, length, Option, Some, None, Result, Ok, Err, refl, sym, ap, subst, ◌∙◌, arith, inl, inr}
+use Rattle.std.proofs.Common.{◌≡◌, ℕ, suc, ◌+◌, ◌-◌, ◌^◌, ◌<◌, ◌≤◌, Bool, true, false, cond, eqb, ltb, List, [], ◌∷◌, length, Option, Some, None, refl, sym, ap, subst, ◌∙◌, arith, inl, inr}
 use Rattle.std.specs.Prelude.{ℤ, pos, negsuc, FitsSigned, All, slice_index}
 use Rattle.std.specs.Int.{w32}
 use Rattle.std.specs.List.{onto_first}
 use Rattle.std.specs.Option.{option_to_list}
-use Rattle.std.proofs.lemmas.Bool.{eqb-true, eqb-false, ltb-true, ltb-false}
+use Rattle.std.proofs.lemmas.Bool.{eqb-true, ltb-true}
 use Rattle.std.proofs.lemmas.List.{length-append}
 use Rattle.std.proofs.lemmas.List.Elements.{All-nil, All-cons, All-append}
 use Rattle.apf_coding.specs.declared.instruction.Op.{Op}
 use Rattle.apf_coding.specs.declared.instruction.Op.TheVariants.{Ldb, Ldh, Ldw, Ldbx, Ldhx, Ldwx, Add, Mul, Div, And, Or, Sh, Li, Jmp, Jeq, Jne, Jgt, Jlt, Jset, Jnebs, Ext, Lddw, Stdw}
 use Rattle.apf_coding.specs.Words.{least_unsigned, least_signed}
-use Rattle.apf_coding.specs.Instruction.{Instruction, IsWidth, IsWellFormed, is_conditional, is_counted, has_second}
+use Rattle.apf_coding.specs.Instruction.{IsWidth, is_conditional, is_counted, has_second}
 use Rattle.apf_coding.specs.Jumps.{is_jump}
 use Rattle.apf_coding.proofs.Widths.{least-width, wider}
 use Rattle.apf_asm.specs.declared.item.Target.{Target}
 use Rattle.apf_asm.specs.declared.item.Item.{Item}
-use Rattle.apf_asm.specs.Items.{IsItemForm, IsFixedForm, IsJumpForm}
-use Rattle.apf_asm.specs.TextForms.{Form, Label, Load, Arithmetic, ArithmeticR1, Shift, ShiftR1, Signed, LoadSlot, StoreSlot, Complement, Negate, Swap, Move, Jump, Compare, CompareR1, CompareBytes, Dotted, Byte, item_of, immediate, plain, unsigned, signed, jump, given, IsWord, IsAllowed, Denotes}
-use Rattle.apf_asm.specs.TextLines.{lines_of, Stands, IsRead, AreRead, Reads}
+use Rattle.apf_asm.specs.Items.{IsItemForm}
+use Rattle.apf_asm.specs.TextForms.{Form, Label, Load, Arithmetic, ArithmeticR1, Shift, ShiftR1, Signed, LoadSlot, StoreSlot, Complement, Negate, Swap, Move, Jump, Compare, CompareR1, CompareBytes, Dotted, Byte, item_of, immediate, plain, unsigned, signed, jump, IsWord, IsAllowed, Denotes}
+use Rattle.apf_asm.specs.TextLines.{lines_of, Stands, AreRead, Reads}
 use Rattle.apf_asm.proofs.TextItems.{one_fits}
 
 -- ---- instructions without a second immediate and without bytes

@@ -8,7 +8,6 @@ use Rattle.apf_coding.specs.declared.instruction.Op.TheVariants.{Ldb, Ldh, Ldw, 
 use Rattle.apf_coding.specs.Words.{least_unsigned, least_signed}
 use Rattle.apf_coding.specs.Instruction.{Instruction, IsWellFormed, is_conditional, is_counted, has_second}
 use Rattle.apf_coding.specs.Names.{name_of}
-use Rattle.apf_asm.specs.declared.item.Fixed.{Fixed}
 use Rattle.apf_asm.specs.declared.item.Target.{Target}
 use Rattle.apf_asm.specs.declared.item.Target.TheVariants as targets
 use Rattle.apf_asm.specs.declared.item.Item.{Item}

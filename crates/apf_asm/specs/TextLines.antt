@@ -1,5 +1,5 @@
 -- Assembler text as lines, and lines as words: which text stands for which items, and which line is refused.
-use Rattle.std.specs.Prelude.{◌≡◌, ℕ, ◌+◌, ◌<◌, ◌&&◌, ◌==◌, nat_le, not, if◌then◌else◌, Bool, List, [], ◌∷◌, ◌++◌, length, filter, Option, Some, None}
+use Rattle.std.specs.Prelude.{◌≡◌, ℕ, ◌+◌, ◌&&◌, ◌==◌, nat_le, not, if◌then◌else◌, Bool, List, [], ◌∷◌, ◌++◌, length, filter, Option, Some, None}
 use Rattle.std.specs.List.{AllPass, slice_split, onto_first, before_first}
 use Rattle.std.specs.Option.{option_to_list}
 use Rattle.apf_asm.specs.declared.item.Item.{Item}

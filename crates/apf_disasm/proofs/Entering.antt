@@ -1,12 +1,11 @@
 -- A line more, and what the listing is so far.
-use Rattle.std.proofs.Common.{◌≡◌, ℕ, ◌+◌, ◌<◌, ◌≤◌, List, [], ◌∷◌, ◌++◌, map, length, get_or, Some, refl, sym, ap, subst, ◌∙◌, append_assoc, arith}
-use Rattle.std.specs.Prelude.{slice_get}
+use Rattle.std.proofs.Common.{◌≡◌, ℕ, ◌+◌, ◌<◌, List, [], ◌∷◌, ◌++◌, map, length, get_or, refl, sym, ap, subst, ◌∙◌, append_assoc}
 use Rattle.std.proofs.lemmas.List.{map-append, append-nil}
 use Rattle.std.proofs.lemmas.Option.{slice_get-get_or}
 use Rattle.apf_coding.specs.Instruction.{Instruction, Begins}
 use Rattle.apf_disasm.specs.declared.listing.Line.{Line}
 use Rattle.apf_disasm.specs.declared.listing.Line.TheVariants as lines
-use Rattle.apf_disasm.specs.Listing.{Entry, Op, Byte, entry_of, Lists, IsListing}
+use Rattle.apf_disasm.specs.Listing.{Entry, Byte, entry_of, Lists, IsListing}
 
 -- the rest of a listing, behind the lines so far
 abbrev pub GoesOn : List ℕ → ℕ → List Line → Type 0

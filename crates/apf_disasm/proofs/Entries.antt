@@ -1,13 +1,13 @@
 -- What each entry of a listing is, and that there is one listing.
-use Rattle.std.proofs.Common.{◌≡◌, ℕ, zero, suc, ◌+◌, ◌-◌, ◌<◌, ◌≤◌, Bool, true, false, cond, List, [], ◌∷◌, ◌++◌, length, get_or, take, drop, Option, Some, None, refl, sym, ap, subst, ◌∙◌, arith}
-use Rattle.std.specs.Prelude.{slice_get, slice_range}
+use Rattle.std.proofs.Common.{◌≡◌, ℕ, ◌+◌, ◌-◌, ◌<◌, ◌≤◌, Bool, true, false, cond, List, [], ◌∷◌, ◌++◌, length, drop, refl, ap, subst, arith}
+use Rattle.std.specs.Prelude.{slice_range}
 use Rattle.std.specs.List.{AllByRecursion}
 use Rattle.std.proofs.lemmas.List.{length-append, length-take, length-drop}
 use Rattle.std.proofs.lemmas.Option.{slice_get_within, get_or_from_slice_get}
 use Rattle.apf_coding.specs.Words.{big_endian}
 use Rattle.apf_coding.specs.Instruction.{Instruction, Begins, IsWellFormed, spelling, first_byte, second_of, counted_of, is_counted}
 use Rattle.apf_coding.proofs.Numbers.{AreBytes, AreBytes-take, AreBytes-drop, AreBytes-tail}
-use Rattle.apf_asm.specs.TextForms.{Dotted, Byte, IsAllowed}
+use Rattle.apf_asm.specs.TextForms.{Dotted, IsAllowed}
 use Rattle.apf_disasm.specs.Listing as listing
 use Rattle.apf_disasm.specs.Listing.{Entry, Lists}
 use Rattle.apf_disasm.specs.Printing.{form_of, place_of}

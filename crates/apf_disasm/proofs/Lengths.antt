@@ -1,5 +1,5 @@
 -- A listing has at most 26 bytes for a byte of code.
-use Rattle.std.proofs.Common.{◌≡◌, ℕ, zero, suc, ◌+◌, ◌-◌, ◌*◌, ◌^◌, ◌<◌, ◌≤◌, Bool, true, false, cond, eqb, List, [], ◌∷◌, ◌++◌, length, drop, refl, sym, ap, subst, ◌∙◌, arith, inl, inr}
+use Rattle.std.proofs.Common.{◌≡◌, ℕ, ◌+◌, ◌*◌, ◌^◌, ◌<◌, ◌≤◌, Bool, true, false, cond, eqb, List, [], ◌∷◌, ◌++◌, length, refl, ap, subst, arith, inl, inr}
 use Rattle.std.specs.Prelude.{codes}
 use Rattle.std.specs.Fmt.{decimal}
 use Rattle.std.specs.List.{AllByRecursion, flat_map}
@@ -16,7 +16,7 @@ use Rattle.apf_coding.specs.Names.{name_of}
 use Rattle.apf_coding.proofs.Numbers.{length-big_endian}
 use Rattle.apf_disasm.specs.Listing as listing
 use Rattle.apf_disasm.specs.Listing.{Entry, IsListing}
-use Rattle.apf_disasm.specs.Printing.{form_of, place_of, line_text, listing_text, second_text, counted_text, place_text, instruction_line, byte_line, written}
+use Rattle.apf_disasm.specs.Printing.{line_text, listing_text, second_text, counted_text, place_text, instruction_line, byte_line}
 use Rattle.apf_disasm.proofs.Entries.{IsGood}
 use Rattle.apf_disasm.proofs.Layouts.{bytes_of, listed_bytes}
 use Rattle.apf_disasm.proofs.Parts.{written_is}

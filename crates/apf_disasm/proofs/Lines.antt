@@ -1,14 +1,12 @@
 -- The text of a listing is read line by line as its items.
-use Rattle.std.proofs.Common.{◌≡◌, ℕ, zero, suc, ◌+◌, ◌^◌, ◌<◌, ◌≤◌, Bool, true, false, cond, List, [], ◌∷◌, ◌++◌, length, Some, refl, sym, ap, subst, ◌∙◌, append_assoc, arith}
+use Rattle.std.proofs.Common.{◌≡◌, ℕ, ◌^◌, ◌<◌, ◌≤◌, true, List, [], ◌∷◌, ◌++◌, Some, refl, sym, ap, subst, ◌∙◌, append_assoc, arith}
 use Rattle.std.specs.Prelude.{codes}
 use Rattle.std.specs.Fmt.{decimal}
-use Rattle.std.specs.List.{AllByRecursion, flat_map, join_with_byte, list_all}
-use Rattle.std.specs.Option.{option_to_list}
+use Rattle.std.specs.List.{AllByRecursion, join_with_byte, list_all}
 use Rattle.std.proofs.lemmas.Bool.{and_from}
-use Rattle.std.proofs.lemmas.List.{append-nil}
 use Rattle.std.proofs.lemmas.List.Folds.{list_all-append}
 use Rattle.apf_asm.specs.TextForms.{words_of, item_of}
-use Rattle.apf_asm.specs.TextLines.{is_printable, lines_of, IsRead, AreRead, Reads}
+use Rattle.apf_asm.specs.TextLines.{is_printable, lines_of, AreRead}
 use Rattle.apf_asm.proofs.TextCutting.{commented, commented_printable, form_plain, form_read, lines_of-line, digits_printable}
 use Rattle.apf_disasm.specs.Listing.{Entry}
 use Rattle.apf_disasm.specs.Printing.{form_of, place_of, line_text, listing_text}

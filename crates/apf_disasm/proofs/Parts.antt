@@ -1,17 +1,16 @@
 -- A line by its parts is the line of its words.
-use Rattle.std.proofs.Common.{◌≡◌, ℕ, zero, suc, ◌+◌, ◌<◌, ◌≤◌, Bool, true, false, cond, List, [], ◌∷◌, ◌++◌, refl, sym, ap, ◌∙◌, append_assoc, arith, inl, inr}
+use Rattle.std.proofs.Common.{◌≡◌, ℕ, ◌+◌, ◌<◌, Bool, true, false, cond, List, [], ◌∷◌, ◌++◌, refl, sym, ap, ◌∙◌, append_assoc, arith, inl, inr}
 use Rattle.std.specs.Prelude.{codes}
 use Rattle.std.specs.Fmt.{decimal}
 use Rattle.std.specs.List.{join_with_byte}
 use Rattle.std.proofs.lemmas.Fmt.{decimal_digit}
 use Rattle.std.proofs.lemmas.List.{append-nil}
-use Rattle.hex.specs.Hex.{encode_lower}
 use Rattle.apf_coding.specs.Instruction.{Instruction, IsWidth, IsWellFormed, has_second, is_counted}
 use Rattle.apf_coding.specs.Names.{name_of}
-use Rattle.apf_asm.specs.TextForms.{Dotted, Byte, words_of, register_word, dotted_word, hex_word, second_words, counted_words, IsAllowed}
+use Rattle.apf_asm.specs.TextForms.{Dotted, words_of, register_word, dotted_word, hex_word, second_words, counted_words, IsAllowed}
 use Rattle.apf_disasm.specs.Listing as listing
 use Rattle.apf_disasm.specs.Listing.{Entry}
-use Rattle.apf_disasm.specs.Printing.{form_of, line_text, second_text, counted_text, place_text, instruction_line, byte_line, written}
+use Rattle.apf_disasm.specs.Printing.{form_of, line_text, second_text, counted_text, place_text, instruction_line, written}
 
 -- words with a space before each
 spaced : List (List ℕ) → List ℕ

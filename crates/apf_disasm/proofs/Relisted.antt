@@ -1,5 +1,5 @@
 -- An assembled code is listed as its instructions.
-use Rattle.std.proofs.Common.{◌≡◌, ℕ, suc, ◌+◌, ◌-◌, ◌^◌, ◌<◌, ◌≤◌, Bool, true, false, cond, ltb, List, [], ◌∷◌, ◌++◌, length, take, drop, Option, Some, None, refl, sym, ap, subst, ◌∙◌, append_assoc, arith}
+use Rattle.std.proofs.Common.{◌≡◌, ℕ, ◌+◌, ◌-◌, ◌^◌, ◌<◌, ◌≤◌, Bool, true, false, cond, ltb, List, [], ◌∷◌, ◌++◌, length, take, drop, Some, None, refl, sym, ap, subst, ◌∙◌, append_assoc, arith}
 use Rattle.std.specs.Prelude.{All, slice_range}
 use Rattle.std.proofs.lemmas.Bool.{ltb-false}
 use Rattle.std.proofs.lemmas.List.{append-nil, take_at, drop_at, length-append}
@@ -7,16 +7,15 @@ use Rattle.std.proofs.lemmas.List.Elements.{All-head, All-tail}
 use Rattle.apf_coding.specs.Instruction.{Instruction, IsWellFormed, Begins, spelling}
 use Rattle.apf_asm.specs.declared.item.Item.{Item}
 use Rattle.apf_asm.specs.declared.item.Item.TheVariants as items
-use Rattle.apf_asm.specs.declared.item.AsmError.{AsmError}
 use Rattle.apf_asm.specs.declared.item.AsmError.TheVariants.{TooLong}
 use Rattle.apf_asm.specs.Items.{fixed_instruction, jump_instruction, IsItemForm}
-use Rattle.apf_asm.specs.Layout.{piece, size, offset, item_offset, code, width_for, item_widths, total, layout}
+use Rattle.apf_asm.specs.Layout.{piece, size, offset, code, width_for, item_widths, layout}
 use Rattle.apf_asm.specs.Refusals.{answer, refusal, too_long}
 use Rattle.apf_asm.proofs.Lengths.{length-piece, length-code}
 use Rattle.apf_asm.proofs.Whole.{first_none, offset-le, jump_fits}
 use Rattle.apf_disasm.specs.Listing as listing
 use Rattle.apf_disasm.specs.Listing.{Entry, Lists, IsListing}
-use Rattle.apf_disasm.specs.Assembled.{IsNoByte, instruction_of, instructions_from, instructions_of}
+use Rattle.apf_disasm.specs.Assembled.{IsNoByte, instructions_from, instructions_of}
 
 -- an instruction begins behind what stands before its spelling
 begun : (program front rest : List ℕ) (i : Instruction) (at : ℕ) → program ≡ front ++ (spelling i ++ rest) → at ≡ length front → IsWellFormed i → Begins program at i (at + length (spelling i))

@@ -5,6 +5,8 @@
 mod laws;
 mod listing;
 mod printing;
+#[cfg(test)]
+mod tests;
 
 pub use laws::{assembled_codes_are_listed, listings_are_determined};
 pub use listing::{Line, list};

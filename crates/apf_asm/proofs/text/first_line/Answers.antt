@@ -1,5 +1,5 @@
 -- The first line by the place of the first line feed.
-use Rattle.std.proofs.Common.{◌≡◌, ℕ, eqb, sym, ◌∙◌, rules, tests}
+use Rattle.std.proofs.Common.{eqb, sym, ◌∙◌, rules, tests}
 use Rattle.std.proofs.lemmas.Iterator.{YieldsList-from_slice}
 use Rattle.std.proofs.lemmas.Iterator.Search.{position_from_yields_List}
 use Rattle.apf_asm.proofs.TextSplitting.{lines_of-found, lines_of-absent}

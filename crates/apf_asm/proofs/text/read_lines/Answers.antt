@@ -1,5 +1,5 @@
 -- Each turn takes a line off the rest.
-use Rattle.std.proofs.Common.{◌≡◌, ℕ, ◌+◌, ◌≤◌, List, [], ◌∷◌, length, refl, sym, ap, ◌∙◌, arith}
+use Rattle.std.proofs.Common.{ℕ, ◌+◌, List, ap, ◌∙◌, arith}
 use Rattle.std.proofs.lemmas.Result.{err_from_is_err_and}
 use Rattle.apf_asm.specs.TextLines.{lines_of}
 use Rattle.apf_asm.specs.TextReading.{with_front, lines_answer, text_answer}

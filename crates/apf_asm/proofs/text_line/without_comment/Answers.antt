@@ -1,11 +1,10 @@
 -- The position of the first semicolon, if there is one.
-use Rattle.std.proofs.Common.{◌≡◌, ℕ, Bool, true, false, cond, eqb, ltb, List, length, take, Option, Some, None, refl, sym, ap, ◌∙◌, arith, rules, tests}
+use Rattle.std.proofs.Common.{◌≡◌, ℕ, Bool, true, false, cond, eqb, ltb, length, take, Some, None, refl, sym, ap, ◌∙◌, rules, tests}
 use Rattle.std.specs.List.{position_or_len}
 use Rattle.std.proofs.lemmas.Bool.{ltb-false}
 use Rattle.std.proofs.lemmas.List.{take_all}
 use Rattle.std.proofs.lemmas.Iterator.{YieldsList-from_slice}
 use Rattle.std.proofs.lemmas.Iterator.Search.{position_from_yields_List}
-use Rattle.apf_asm.specs.TextLines.{without_comment}
 use Rattle.apf_asm.proofs.text_line.without_comment.Goals as goal
 
 found : (n at : ℕ) (b : Bool) → Some at ≡ cond b (Some n) None → at ≡ n

@@ -1,5 +1,5 @@
 -- The pieces between spaces, without the empty ones.
-use Rattle.std.proofs.Common.{◌≡◌, ℕ, eqb, not, length, rules, tests}
+use Rattle.std.proofs.Common.{eqb, not, length, rules, tests}
 use Rattle.std.proofs.lemmas.Iterator.Consumers.{map_from_collect, YieldsList-from_filter, YieldsList-at}
 use Rattle.std.proofs.lemmas.Iterator.Splits.{YieldsList-from_slice_split}
 use Rattle.apf_asm.specs.TextLines.{without_comment}

@@ -1,4 +1,4 @@
-use Rattle.std.proofs.Common.{◌≡◌, ◌∙◌, sym, List, ℕ, true}
+use Rattle.std.proofs.Common.{◌≡◌, ◌∙◌, sym, true}
 use Rattle.std.specs.Str.{IsUtf8}
 use Rattle.apf_asm.specs.TextReading.{is_numeral}
 use Rattle.apf_asm.proofs.TextNumbers.{parsed, numeral_is_text, not_numeral, same_text, no_text, Reads_from}

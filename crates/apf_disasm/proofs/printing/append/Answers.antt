@@ -1,7 +1,5 @@
 -- The lines are the listing, and their texts its text.
 use Rattle.std.proofs.Common.{arith}
-use Rattle.std.specs.Prelude.{map, ◌++◌, ◌≡◌}
-use Rattle.apf_disasm.specs.Listing.{entry_of}
 use Rattle.apf_disasm.proofs.Printed.{appends}
 use Rattle.apf_disasm.proofs.printing.append.Goals as goal
 
