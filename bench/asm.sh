@@ -1,8 +1,8 @@
 #!/usr/bin/env bash
-# How fast `asm` assembles texts of 1 MiB: plain lines, 100,000 labels and jumps, and a chain of jumps of which each
+# How fast `disasm` lists 65,535 bytes, and `asm` assembles texts of 1 MiB: plain lines, 100,000 labels and jumps, and a chain of jumps of which each
 # gets its width from those behind it. Wants Python 3, and the proved program: run ./install first.
 #
-# Goal: plain lines in less than one second, labels and the chain in less than two.
+# Goal: the listing and plain lines in less than one second, labels and the chain in less than two.
 set -eu
 top=$(cd "$(dirname "$0")/.." && pwd)
 program=${APF_RUN:-$top/crates/apf_run/out/apf_run}
@@ -29,14 +29,5 @@ for name, text in ("plain lines", plain), ("labels and jumps", labels), ("chain 
     path = os.path.join(folder, "text")
     with open(path, "w") as out:
         out.write(text)
-    best = None
-    for _ in range(3):
-        start = time.monotonic()
-        child = subprocess.Popen([program, "asm", path], stdout=subprocess.PIPE)
-        code = child.stdout.read()
-        _, status, usage = os.wait4(child.pid, 0)
-        assert status == 0, status
-        seconds = time.monotonic() - start
-        best = min(best or seconds, seconds)
-    print(f"asm, {name}: {len(text):,} bytes to {len(code):,} in {best:.3f} s, peak {usage.ru_maxrss / 1024:.1f} MiB")
+    print(f"asm, {name}: {len(text):,} bytes to {best_of(['asm', path])}")
 PYTHON
