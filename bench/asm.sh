@@ -1,8 +1,8 @@
 #!/usr/bin/env bash
-# How fast `asm` assembles texts of 1 MiB: plain lines, 100,000 labels and jumps, and a chain of jumps of which each
+# How fast `disasm` lists 65,535 bytes, and `asm` assembles texts of 1 MiB: plain lines, 100,000 labels and jumps, and a chain of jumps of which each
 # gets its width from those behind it. Wants Python 3, and the proved program: run ./install first.
 #
-# Goal: plain lines in less than one second, labels and the chain in less than two.
+# Goal: the listing and plain lines in less than one second, labels and the chain in less than two.
 set -eu
 top=$(cd "$(dirname "$0")/.." && pwd)
 program=${APF_RUN:-$top/crates/apf_run/out/apf_run}
@@ -25,18 +25,26 @@ labels = padded([line for n in range(50_000) for line in (f"jmp L{n}", f"L{n}:")
 # Each jump goes over the next 84 jumps, which takes one byte where they take few enough.
 chain = padded([line for n in range(20_000) for line in (f"L{n}:", f"jeq 1 L{n + 84}")] + [f"L{n}:" for n in range(20_000, 20_084)])
 
-for name, text in ("plain lines", plain), ("labels and jumps", labels), ("chain of jumps", chain):
-    path = os.path.join(folder, "text")
-    with open(path, "w") as out:
-        out.write(text)
+def best_of(words):
     best = None
     for _ in range(3):
         start = time.monotonic()
-        child = subprocess.Popen([program, "asm", path], stdout=subprocess.PIPE)
-        code = child.stdout.read()
+        child = subprocess.Popen([program, *words], stdout=subprocess.PIPE)
+        output = child.stdout.read()
         _, status, usage = os.wait4(child.pid, 0)
         assert status == 0, status
         seconds = time.monotonic() - start
         best = min(best or seconds, seconds)
-    print(f"asm, {name}: {len(text):,} bytes to {len(code):,} in {best:.3f} s, peak {usage.ru_maxrss / 1024:.1f} MiB")
+    return f"{len(output):,} in {best:.3f} s, peak {usage.ru_maxrss / 1024:.1f} MiB"
+
+path = os.path.join(folder, "code")
+with open(path, "wb") as out:
+    out.write(bytes(n * 7 % 256 for n in range(65_535)))
+print(f"disasm: 65,535 bytes to {best_of(['disasm', path])}")
+
+for name, text in ("plain lines", plain), ("labels and jumps", labels), ("chain of jumps", chain):
+    path = os.path.join(folder, "text")
+    with open(path, "w") as out:
+        out.write(text)
+    print(f"asm, {name}: {len(text):,} bytes to {best_of(['asm', path])}")
 PYTHON

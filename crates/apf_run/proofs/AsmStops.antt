@@ -1,5 +1,5 @@
 -- A file that can't be read stops `asm` before its text is looked at.
-use Rattle.std.proofs.Common.{◌≡◌, ◌≤◌, ◌<◌, ℕ, List, length, Bool, true, false, cond, ltb, Option, None, Some, Result, Ok, Err, IfSome, refl, ap, arith, inl, inr, ◌⊎◌}
+use Rattle.std.proofs.Common.{◌≡◌, ◌≤◌, ◌<◌, ℕ, List, length, Bool, true, false, cond, ltb, Option, None, Some, Result, Ok, Err, IfSome, refl, arith, inl, inr}
 use Rattle.std.proofs.lemmas.Bool.{lt-ltb}
 use Rattle.apf_asm.specs.declared.item.Item.{Item}
 use Rattle.apf_asm.specs.declared.item.AsmError.{AsmError}
@@ -11,7 +11,7 @@ use Rattle.apf_asm.specs.TextReading.{text_answer}
 use Rattle.apf_run.specs.declared.fault.Input.TheVariants.{Text}
 use Rattle.apf_run.specs.declared.fault.Fault.{Fault}
 use Rattle.apf_run.specs.declared.fault.Fault.TheVariants.{Usage, BadCapture, BadText, Twice, Unknown, Backward, TooLong, CodeTooLong, OutOfMemory, Read, Write, Open}
-use Rattle.apf_run.specs.Ends.{end_place, ComesFirst, Stops, FileFails}
+use Rattle.apf_run.specs.Ends.{end_place, Stops, FileFails}
 use Rattle.apf_run.specs.AsmEnds.{items_end, text_end, asm_end}
 
 late_items : (a : Option AsmError) → 4 ≤ end_place (items_end a)

@@ -1,5 +1,5 @@
 -- The lines of a listing, and how `disasm` ends with them.
-use Rattle.std.proofs.Common.{◌≡◌, ◌≤◌, ◌<◌, ◌⊎◌, ◌∷◌, ℕ, List, [], length, map, get_or, Bool, true, false, cond, ltb, Option, None, Some, Result, Ok, Err, IfSome, IfErr, OnOk, OnErr, refl, sym, ap, subst, ◌∙◌, arith, inl, inr}
+use Rattle.std.proofs.Common.{◌≡◌, ◌≤◌, ◌⊎◌, ◌∷◌, ℕ, List, [], length, map, Bool, true, false, cond, ltb, Option, None, Some, Result, Ok, Err, IfSome, IfErr, OnOk, OnErr, refl, ap, subst, ◌∙◌, arith, inl, inr}
 use Rattle.std.specs.List.{AllByRecursion}
 use Rattle.std.specs.Io.KnownBytes.{Keeps}
 use Rattle.std.proofs.lemmas.Bool.{le-ltb}

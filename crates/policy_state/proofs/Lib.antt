@@ -1,1 +1,3 @@
+pub mod AskingLaws
+pub mod FieldsSeen
 pub mod Verdicts

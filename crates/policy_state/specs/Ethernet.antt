@@ -1,4 +1,4 @@
--- The Ethernet header.
+-- The Ethernet header (IEEE 802.3, sections 3.2.3 to 3.2.6).
 use Rattle.std.specs.Prelude.{ℕ, List, [], ◌∷◌, Option}
 use Rattle.frame_views.specs.Fields.{field, part}
 

@@ -1,4 +1,5 @@
--- The lines of the question on IPv4, each a definition that is named for the frames that it answers.
+-- The lines of the question on IPv4, each a definition that is named for the frames that it answers. Headers are those
+-- of RFC 791 (IPv4), RFC 768 (UDP), RFC 2131 (DHCP) and RFC 9293 (TCP).
 use Rattle.std.specs.Prelude.{ℕ, ◌+◌, ◌-◌, ◌/◌, ◌%◌, ◌^◌, ◌==◌, nat_lt, if◌then◌else◌, bit_and, bit_or, List, [], ◌∷◌, ◌++◌, map, bytes_eq, Option, Some, None, is_some}
 use Rattle.std.specs.List.{list_any}
 use Rattle.std.specs.Int.{w16, w32, to_be_bytes}

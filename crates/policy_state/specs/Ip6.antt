@@ -1,4 +1,5 @@
--- The lines of the question on IPv6, each a definition that is named for the frames that it answers.
+-- The lines of the question on IPv6, each a definition that is named for the frames that it answers. Headers are those
+-- of RFC 8200 (IPv6) and RFC 4861 (neighbor discovery).
 use Rattle.std.specs.Prelude.{ℕ, ◌==◌, not, if◌then◌else◌, List, [], ◌∷◌, ◌++◌, replicate, bytes_eq, Option}
 use Rattle.apf_coding.specs.declared.machine.Verdict.TheVariants.{Pass, Drop}
 use Rattle.data_counters.specs.declared.counter.Counter.TheVariants.{PassedIpv6NonIcmp, PassedIpv6UnicastNonIcmp, PassedIpv6Icmp, DroppedIpv6RouterSolicitation, DroppedIpv6MulticastNa, DroppedIpv6Multicast}

@@ -1,5 +1,6 @@
 -- The policy, question by question and line by line: what becomes of a frame, and which counter says why.
--- Each line is a definition that is named for the frames that it answers.
+-- After ApfFilter of Android 10; the order is this project's own. Each line is a definition that is named for the frames
+-- that it answers. ARP packets are those of RFC 826.
 use Rattle.std.specs.Prelude.{ℕ, ◌==◌, nat_lt, Bool, not, ◌&&◌, if◌then◌else◌, List, [], ◌∷◌, bytes_eq, Option, Some, None}
 use Rattle.std.specs.List.{list_any}
 use Rattle.apf_coding.specs.declared.machine.Verdict.TheVariants.{Pass, Drop}

@@ -1,9 +1,6 @@
-use Rattle.std.proofs.Common.{arith, map, List, inr}
+use Rattle.std.proofs.Common.{arith, map, inr}
 use Rattle.std.proofs.lemmas.Result.{on_ok_weaker, on_err_weaker}
-use Rattle.std.proofs.Common.{subst}
 use Rattle.apf_disasm.specs.Listing.{entry_of, IsListing}
-use Rattle.apf_run.specs.Lines.{AppendsAll}
-use Rattle.apf_run.specs.Ends.{LeavesFront}
 use Rattle.apf_run.proofs.Listings.{lines_are}
 use Rattle.apf_run.proofs.disasm.write_listing.Goals as goal
 

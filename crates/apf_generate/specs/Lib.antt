@@ -1,0 +1,4 @@
+pub mod Means
+pub mod Listing
+pub mod Program
+pub mod Sizes

@@ -1,0 +1,44 @@
+-- The items of a whole program, but for those of its rules.
+use Rattle.std.specs.Prelude.{ℕ, List, [], ◌∷◌, ◌++◌}
+use Rattle.apf_coding.specs.declared.instruction.Op.TheVariants.{Ldh, Lddw, Stdw, Add, Jeq}
+use Rattle.apf_coding.specs.declared.machine.Verdict.TheVariants.{Pass, Drop}
+use Rattle.apf_asm.specs.declared.item.Item.{Item}
+use Rattle.apf_asm.specs.declared.item.Item.TheVariants as items
+use Rattle.apf_asm.specs.declared.item.Target.TheVariants as targets
+use Rattle.data_counters.specs.declared.counter.Counter.TheVariants.{PassedIpv4, PassedIpv6Icmp, PassedNonIpUnicast, DroppedEthBroadcast}
+use Rattle.policy_state.specs.Ethernet.{broadcast}
+use Rattle.rule_items.specs.Building.{to_end, fixed, load, place, jump_if, jump, jump_unless}
+use Rattle.arp_rules.specs.Listing.{counting}
+
+-- one more in the word at a distance from R1; a distance from 128 on is one of minus 256 more
+abbrev pub raising_items : ℕ → List Item
+raising_items distance = fixed Lddw 0 1 distance ∷ fixed Add 0 1 1 ∷ fixed Stdw 0 1 distance ∷ []
+
+-- TotalPackets is raised: R1 is 0 where a run begins, and the counter is the last word, at -4
+abbrev pub opening_items : List Item
+opening_items = raising_items 252
+
+-- IPv4 and IPv6 frames
+abbrev pub ip_items : List Item
+ip_items =
+    load Ldh 12 ∷ counting PassedIpv4 ∷ jump_if Jeq 0x800 (to_end Pass)
+    ∷ counting PassedIpv6Icmp ∷ jump_if Jeq 0x86dd (to_end Pass)
+    ∷ []
+
+-- all other frames
+abbrev pub last_items : List Item
+last_items =
+    place 0 ∷ counting PassedNonIpUnicast ∷ jump_unless broadcast (to_end Pass)
+    ∷ counting DroppedEthBroadcast ∷ jump (to_end Drop)
+    ∷ []
+
+-- the counter that R1 asks for is raised, and the program ends
+abbrev pub end_items : List Item
+end_items =
+    items.Label 0 ∷ fixed Lddw 0 1 0 ∷ fixed Add 0 1 1 ∷ fixed Stdw 0 1 0 ∷ jump targets.Pass
+    ∷ items.Label 1 ∷ fixed Lddw 0 1 0 ∷ fixed Add 0 1 1 ∷ fixed Stdw 0 1 0 ∷ jump targets.Drop
+    ∷ []
+
+-- a program's items round those of its questions
+abbrev pub between_ends : List Item → List Item
+between_ends xs = opening_items ++ (xs ++ end_items)

@@ -1,0 +1,26 @@
+-- Items that answer the policy's questions.
+use Rattle.std.specs.Prelude.{◌≡◌, ℕ, ◌+◌, ◌*◌, ◌≤◌, List, length}
+use Rattle.apf_asm.specs.declared.item.Item.{Item}
+use Rattle.policy_state.specs.declared.basis.Basis.{Basis}
+use Rattle.policy_state.specs.Asking.{first_of}
+use Rattle.policy_state.specs.Policy.{questions}
+use Rattle.rule_items.specs.Fragment.{IsPart}
+use Rattle.rule_items.specs.Saying.{Said}
+use Rattle.arp_rules.specs.Rulings.{said_of}
+use Rattle.apf_generate.specs.Listing.{between_ends}
+
+-- what the policy says of a frame of more than 14 bytes
+abbrev pub asked : Basis → ℕ → List ℕ → Said
+asked basis age frame = said_of (first_of (questions basis age frame))
+
+-- items that answer all questions, with their labels from 2 on
+pub record HoldsQuestions (basis : Basis) (xs : List Item) : Type 0 where
+  pub to : ℕ
+  pub few : to ≤ 1000
+  pub part : IsPart (asked basis) 2 to (182 + 9 * length basis.config.deny) xs
+
+-- the items of a whole program
+pub record IsProgram (basis : Basis) (xs : List Item) : Type 0 where
+  pub questions : List Item
+  pub holds : HoldsQuestions basis questions
+  pub whole : xs ≡ between_ends questions

@@ -1,0 +1,132 @@
+-- The forms of the link and ARP items.
+use Rattle.std.proofs.Common.{◌≡◌, ℕ, ◌+◌, ◌*◌, ◌<◌, ◌≤◌, ◌^◌, Bool, true, false, List, [], ◌∷◌, ◌++◌, length, Option, Some, None, refl, ap, arith, lit<, lit≤}
+use Rattle.std.specs.Prelude.{All}
+use Rattle.std.proofs.lemmas.List.Elements.{All-head, All-tail}
+use Rattle.std.proofs.lemmas.List.Sums.{sum_by-append, sum_by-cons}
+use Rattle.apf_coding.specs.declared.instruction.Op.TheVariants.{Ldh, Ldw, Li, Jeq, Jne, Jlt}
+use Rattle.apf_coding.specs.declared.machine.Verdict.TheVariants.{Pass, Drop}
+use Rattle.apf_asm.specs.declared.item.Item.{Item}
+use Rattle.apf_asm.specs.declared.item.Item.TheVariants as items
+use Rattle.apf_asm.specs.Layout.{wide_size, wide_length}
+use Rattle.data_counters.specs.declared.counter.Counter.{Counter}
+use Rattle.data_counters.specs.declared.counter.Counter.TheVariants.{PassedArp, PassedArpNonIpv4, PassedArpUnknown, PassedArpUnicastReply, Dropped8023Frame, DroppedEthertypeDenied, DroppedArpReplySpaNoHost, DroppedGarpReply, DroppedArpOtherHost}
+use Rattle.data_counters.specs.Counters.{number_of}
+use Rattle.policy_state.specs.declared.basis.Basis.{Basis}
+use Rattle.policy_state.specs.declared.state.Address.{Address}
+use Rattle.policy_state.specs.Ethernet.{broadcast}
+use Rattle.policy_state.specs.Policy.{arp_opening}
+use Rattle.rule_items.specs.Building.{to_end, load, jump_if}
+use Rattle.rule_items.specs.Fragment.{AreFresh, IsFragment, labels}
+use Rattle.rule_items.proofs.Forms.{IsSound, stands-here, bytes_fit, sound-nil, sound-append, sound-byte, sound-count, sound-if_end, sound-if_label, sound-jump_end, sound-unless_end, sound-label}
+use Rattle.rule_items.proofs.Parts.{fragment-of}
+use Rattle.arp_rules.specs.Listing.{counting, length_items, deny_items, denied_items, link_items, reply_items, target_items, packet_items, arp_items, IsInRange}
+use Rattle.arp_rules.proofs.Language.{has_word}
+
+pub sound-counting : (c : Counter) (xs : List Item) → IsSound xs → IsSound (counting c ∷ xs)
+sound-counting c xs s = sound-count (number_of c) xs (has_word c) s
+
+-- ---- the Ethernet header
+
+sound-deny : (deny : List ℕ) → All (λ d. d < 2 ^ 16) deny → IsSound (deny_items deny)
+sound-deny [] fits = sound-nil
+sound-deny (d ∷ deny) fits =
+    let lt : d < 2 ^ 16 = All-head (λ d. d < 2 ^ 16) d deny fits in
+    sound-if_end Jeq d Drop (deny_items deny) refl (omega arith) (sound-deny deny (All-tail (λ d. d < 2 ^ 16) d deny fits))
+
+sound-length : (on : Bool) (xs : List Item) → IsSound xs → IsSound (length_items on ++ xs)
+sound-length true xs s = sound-counting Dropped8023Frame _ (sound-if_end Jlt 0x600 Drop xs refl (lit< tt) s)
+sound-length false xs s = s
+
+wide-deny : (deny : List ℕ) → wide_length (deny_items deny) ≡ 9 * length deny
+wide-deny [] = refl
+wide-deny (d ∷ deny) = omega (arith, wide-deny deny, sum_by-cons wide_size (jump_if Jeq d (to_end Drop)) (deny_items deny))
+
+labels-deny : (deny : List ℕ) → labels (deny_items deny) ≡ []
+unfolding labels
+labels-deny [] = refl
+labels-deny (d ∷ deny) = labels-deny deny
+
+labels-link : (on : Bool) (deny : List ℕ) → labels (length_items on ++ denied_items deny) ≡ []
+unfolding labels
+labels-link true deny = labels-deny deny
+labels-link false deny = labels-deny deny
+
+wide-link : (basis : Basis) → wide_length (link_items basis) ≤ 20 + 9 * length basis.config.deny
+wide-link basis =
+    omega (
+      arith,
+      sum_by-append wide_size (load Ldh 12 ∷ length_items basis.config.drop_802_3) (denied_items basis.config.deny),
+      wide-length basis.config.drop_802_3,
+      sum_by-cons wide_size (counting DroppedEthertypeDenied) (deny_items basis.config.deny),
+      wide-deny basis.config.deny,
+    )
+  where
+    wide-length : (on : Bool) → wide_length (load Ldh 12 ∷ length_items on) ≤ 13
+    wide-length true = lit≤ tt
+    wide-length false = lit≤ tt
+
+fresh-none : (next : ℕ) (ls : List ℕ) → ls ≡ [] → AreFresh next next ls
+fresh-none next [] e = tt
+fresh-none next (l ∷ ls) e = absurd cc
+
+pub link_fragment : (basis : Basis) (next : ℕ) → All (λ d. d < 2 ^ 16) basis.config.deny → IsFragment next next (20 + 9 * length basis.config.deny) (link_items basis)
+unfolding labels
+link_fragment basis next fits =
+    let deny = basis.config.deny in
+    let on = basis.config.drop_802_3 in
+    fragment-of next next _ (link_items basis)
+    (sound-byte Ldh 0 12 _ refl (lit< tt) (lit< tt) (sound-length on (denied_items deny) (sound-counting DroppedEthertypeDenied _ (sound-deny deny fits))))
+    (omega arith)
+    (fresh-none next _ (labels-link on deny))
+    (omega (arith, ap length (labels-link on deny)))
+    (wide-link basis)
+
+-- ---- ARP
+
+sound-reply : IsSound reply_items
+sound-reply =
+    sound-counting PassedArpUnknown _ (sound-if_end Jne 2 Pass _ refl (lit< tt)
+    (sound-byte Ldw 0 28 _ refl (lit< tt) (lit< tt) (sound-counting DroppedArpReplySpaNoHost _ (sound-if_end Jeq 0 Drop _ refl (lit< tt)
+    (sound-byte Li 0 0 _ refl (lit< tt) (lit< tt) (sound-counting PassedArpUnicastReply _ (sound-unless_end broadcast Pass [] (lit< tt) (lit≤ tt) (bytes_fit broadcast refl) sound-nil)))))))
+
+sound-target : (address : Option Address) → IsInRange address → IsSound (target_items address)
+sound-target None fits =
+    sound-byte Ldw 0 38 _ refl (lit< tt) (lit< tt) (sound-counting DroppedGarpReply _ (sound-if_end Jeq 0 Drop _ refl (lit< tt)
+    (sound-counting PassedArp _ (sound-jump_end Pass [] sound-nil))))
+sound-target (Some address) fits =
+    sound-byte Ldw 0 38 _ refl (lit< tt) (lit< tt) (sound-counting DroppedArpOtherHost _ (sound-if_end Jne address.ip Drop _ refl fits
+    (sound-counting PassedArp _ (sound-jump_end Pass [] sound-nil))))
+
+sound-packet : (request : ℕ) (address : Option Address) → IsInRange address → IsSound (packet_items request address)
+sound-packet request address fits =
+    sound-byte Li 0 14 _ refl (lit< tt) (lit< tt) (sound-counting PassedArpNonIpv4 _ (sound-unless_end arp_opening Pass _ (lit< tt) (lit≤ tt) (bytes_fit arp_opening refl)
+    (sound-byte Ldh 0 20 _ refl (lit< tt) (lit< tt)
+    (sound-if_label Jeq 1 request (reply_items ++ (items.Label request ∷ target_items address)) refl (lit< tt) (stands-here request reply_items (target_items address))
+    (sound-append reply_items (items.Label request ∷ target_items address) sound-reply (sound-label request (target_items address) (sound-target address fits)))))))
+
+sound-arp : (next : ℕ) (address : Option Address) → IsInRange address → IsSound (arp_items next address)
+sound-arp next address fits =
+    sound-byte Ldh 0 12 _ refl (lit< tt) (lit< tt)
+    (sound-if_label Jne 0x806 next (packet_items (next + 1) address ++ (items.Label next ∷ [])) refl (lit< tt) (stands-here next (packet_items (next + 1) address) [])
+    (sound-append (packet_items (next + 1) address) (items.Label next ∷ []) (sound-packet (next + 1) address fits) (sound-label next [] sound-nil)))
+
+wide-arp : (next : ℕ) (address : Option Address) → wide_length (arp_items next address) ≤ 112
+wide-arp next None = lit≤ tt
+wide-arp next (Some address) = lit≤ tt
+
+labels-arp : (next : ℕ) (address : Option Address) → labels (arp_items next address) ≡ (next + 1) ∷ next ∷ []
+unfolding labels
+labels-arp next None = refl
+labels-arp next (Some address) = refl
+
+fresh-two : (next : ℕ) (ls : List ℕ) → ls ≡ (next + 1) ∷ next ∷ [] → AreFresh next (next + 2) ls
+fresh-two next ls e = rw e (omega arith, omega arith, ((λ h. absurd (omega arith)), tt), (omega arith, omega arith, tt, tt))
+
+pub arp_fragment : (next : ℕ) (address : Option Address) → IsInRange address → IsFragment next (next + 2) 112 (arp_items next address)
+arp_fragment next address fits =
+    fragment-of next (next + 2) 112 (arp_items next address)
+    (sound-arp next address fits)
+    (omega arith)
+    (fresh-two next _ (labels-arp next address))
+    (omega (arith, ap length (labels-arp next address)))
+    (wide-arp next address)

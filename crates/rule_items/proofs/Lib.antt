@@ -1,0 +1,6 @@
+pub mod Forms
+pub mod Language
+pub mod Parts
+pub mod Rules
+pub mod Settled
+pub mod Steps
