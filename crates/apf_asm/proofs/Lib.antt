@@ -21,3 +21,4 @@ pub mod TextLaws
 pub mod TextShapes
 pub mod TextKnowing
 pub mod TextCutting
+pub mod TextValues

@@ -32,5 +32,6 @@ pub use sharing::types_are_shared;
 pub use text::read_text;
 pub use text_error::{TextError, TextKind};
 pub use text_laws::{
-    first_words_are_listed, texts_are_answered, texts_are_read_or_refused, words_have_one_item,
+    first_words_are_listed, signed_numbers_are_kept, texts_are_answered, texts_are_read_or_refused,
+    words_have_one_item,
 };

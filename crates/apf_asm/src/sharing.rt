@@ -2,6 +2,7 @@
 
 use crate::emitting::Code;
 use crate::item::{AsmError, Fixed, Item, Jump, Target};
+use crate::text_error::{TextError, TextKind};
 
 fn is_shared<T: Send + Sync>() {}
 
@@ -13,4 +14,6 @@ pub fn types_are_shared() {
     is_shared::<Item>();
     is_shared::<Code>();
     is_shared::<AsmError>();
+    is_shared::<TextKind>();
+    is_shared::<TextError>();
 }

@@ -1,11 +1,15 @@
 //! Laws over the grammar, each the contract of an empty function.
 
-ghost use Rattle.std.specs.Prelude.{◌≡◌, ◌≢◌, ◌↔◌, ◌⊎◌, ℕ, List, Ok, Err};
+ghost use Rattle.std.specs.Prelude.{◌≡◌, ◌≢◌, ◌↔◌, ◌⊎◌, ℕ, ℤ, List, Ok, Err, FitsSigned};
+ghost use Rattle.std.specs.Int.{w32, cast_unsigned};
+ghost use Rattle.apf_coding.specs.Instruction.{Instruction};
+ghost use Rattle.apf_coding.specs.Meaning.{signed};
+ghost use Rattle.apf_coding.specs.Words.{least_signed};
 ghost use Rattle.apf_asm.specs.declared.item.Item.{Item};
 ghost use Rattle.apf_asm.specs.Items.{IsItemForm};
 ghost use Rattle.apf_asm.specs.declared.text_error.TextError.{TextError};
 ghost use Rattle.apf_asm.specs.declared.text_error.TextKind.{TextKind};
-ghost use Rattle.apf_asm.specs.TextForms.{Denotes, IsKnown};
+ghost use Rattle.apf_asm.specs.TextForms.{Denotes, IsKnown, immediate};
 ghost use Rattle.apf_asm.specs.TextKnown.{IsName, IsLabel, IsDotted};
 ghost use Rattle.apf_asm.specs.TextLines.{Reads, Refuses};
 ghost use Rattle.apf_asm.specs.TextReading.{text_answer};
@@ -33,4 +37,9 @@ pub fn texts_are_read_or_refused()
 pub fn texts_are_answered()
     ensures read { (text : List ℕ) (items : List Item) → (text_answer text ≡ Ok items) ↔ Reads text items }
     ensures refused { (text : List ℕ) (line : ℕ) (kind : TextKind) → (text_answer text ≡ Err (TextError.Bad line kind)) ↔ Refuses text line kind }
+{}
+
+/// The first immediate of a line with a signed number is that number, as the machine reads it.
+pub fn signed_numbers_are_kept()
+    ensures { (z : ℤ) (i : Instruction) → FitsSigned w32 z → i.width ≡ least_signed z → i.imm ≡ immediate z → signed i ≡ cast_unsigned w32 z }
 {}

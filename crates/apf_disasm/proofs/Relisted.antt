@@ -9,7 +9,7 @@ use Rattle.apf_asm.specs.declared.item.Item.{Item}
 use Rattle.apf_asm.specs.declared.item.Item.TheVariants as items
 use Rattle.apf_asm.specs.declared.item.AsmError.TheVariants.{TooLong}
 use Rattle.apf_asm.specs.Items.{fixed_instruction, jump_instruction, IsItemForm}
-use Rattle.apf_asm.specs.Layout.{piece, size, offset, code, width_for, item_widths, layout}
+use Rattle.apf_asm.specs.Layout.{piece, size, offset, code, width_for, item_widths, places, layout}
 use Rattle.apf_asm.specs.Refusals.{answer, refusal, too_long}
 use Rattle.apf_asm.proofs.Lengths.{length-piece, length-code}
 use Rattle.apf_asm.proofs.Whole.{first_none, offset-le, jump_fits}
@@ -35,15 +35,15 @@ listed_op program front rest i at next later parts place after good more =
 behind_is : (program front piece rest : List ℕ) → program ≡ front ++ (piece ++ rest) → program ≡ (front ++ piece) ++ rest
 behind_is program front piece rest parts = parts ∙ sym (append_assoc front piece rest)
 
-pub relisted : (program front : List ℕ) (rest : List Item) (at : ℕ) → length program ≤ 65535 → All IsItemForm rest → All IsNoByte rest → program ≡ front ++ code rest (item_widths rest) → at ≡ length front → Lists program at (instructions_from at rest (item_widths rest))
-unfolding code item_widths instructions_from
+pub relisted : (program front : List ℕ) (rest : List Item) (at : ℕ) → length program ≤ 65535 → All IsItemForm rest → All IsNoByte rest → program ≡ front ++ code rest (item_widths rest) → at ≡ length front → Lists program at (instructions_from rest (item_widths rest) (places at rest (item_widths rest)))
+unfolding code item_widths instructions_from places
 relisted program front [] at long forms none parts place = place ∙ sym (ap length (parts ∙ append-nil front))
 relisted program front (items.Fixed f ∷ rest) at long forms none parts place =
     let i = fixed_instruction f in
     let ws : List ℕ = item_widths rest in
     let good = (All-head IsItemForm (items.Fixed f) rest forms).well_formed in
     let next : at + length (spelling i) ≡ length (front ++ spelling i) = omega (arith, length-append front (spelling i)) in
-    listed_op program front (code rest ws) i at (at + length (spelling i)) (instructions_from (at + length (spelling i)) rest ws) parts place refl good
+    listed_op program front (code rest ws) i at (at + length (spelling i)) (instructions_from rest ws (places (at + length (spelling i)) rest ws)) parts place refl good
     (relisted program (front ++ spelling i) rest (at + length (spelling i)) long (All-tail IsItemForm (items.Fixed f) rest forms) (All-tail IsNoByte (items.Fixed f) rest none) (behind_is program front (spelling i) (code rest ws) parts) next)
 relisted program front (items.Jump j ∷ rest) at long forms none parts place =
     let ws : List ℕ = item_widths rest in
@@ -58,11 +58,11 @@ relisted program front (items.Jump j ∷ rest) at long forms none parts place =
     let same : size (items.Jump j) w ≡ length (spelling i) = sym (length-piece (items.Jump j) w o) in
     let after : at + size (items.Jump j) w ≡ at + length (spelling i) = ap (λ (n : ℕ). at + n) same in
     let next : at + size (items.Jump j) w ≡ length (front ++ spelling i) = omega (arith, length-append front (spelling i)) in
-    listed_op program front (code rest ws) i at (at + size (items.Jump j) w) (instructions_from (at + size (items.Jump j) w) rest ws) parts place after good
+    listed_op program front (code rest ws) i at (at + size (items.Jump j) w) (instructions_from rest ws (places (at + size (items.Jump j) w) rest ws)) parts place after good
     (relisted program (front ++ spelling i) rest (at + size (items.Jump j) w) long (All-tail IsItemForm (items.Jump j) rest forms) (All-tail IsNoByte (items.Jump j) rest none) (behind_is program front (spelling i) (code rest ws) parts) next)
 relisted program front (items.Label l ∷ rest) at long forms none parts place =
     let same : at + 0 ≡ at = omega arith in
-    subst (λ (n : ℕ). Lists program at (instructions_from n rest (item_widths rest))) (sym same)
+    subst (λ (n : ℕ). Lists program at (instructions_from rest (item_widths rest) (places n rest (item_widths rest)))) (sym same)
     (relisted program front rest at long (All-tail IsItemForm (items.Label l) rest forms) (All-tail IsNoByte (items.Label l) rest none) parts place)
 relisted program front (items.Byte b ∷ rest) at long forms none parts place = absurd (All-head IsNoByte (items.Byte b) rest none)
 

@@ -1,9 +1,9 @@
 -- The instructions of items that are laid out, each with its place.
-use Rattle.std.specs.Prelude.{ℕ, ◌+◌, List, [], ◌∷◌, ◌++◌}
+use Rattle.std.specs.Prelude.{ℕ, List, [], ◌∷◌, ◌++◌}
 use Rattle.apf_asm.specs.declared.item.Item.{Item}
 use Rattle.apf_asm.specs.declared.item.Item.TheVariants as items
 use Rattle.apf_asm.specs.Items.{fixed_instruction, jump_instruction}
-use Rattle.apf_asm.specs.Layout.{size, item_offset, item_widths}
+use Rattle.apf_asm.specs.Layout.{item_offset, item_widths, layout}
 use Rattle.apf_disasm.specs.Listing as listing
 use Rattle.apf_disasm.specs.Listing.{Entry}
 
@@ -19,11 +19,13 @@ instruction_of (items.Jump j) at width offset = listing.Op at (jump_instruction 
 instruction_of (items.Label l) at width offset = []
 instruction_of (items.Byte b) at width offset = []
 
--- the instructions from a place on, where the items have these widths
-unfoldable pub instructions_from : ℕ → List Item → List ℕ → List Entry
-instructions_from at [] widths = []
-instructions_from at (item ∷ rest) [] = []
-instructions_from at (item ∷ rest) (w ∷ widths) = instruction_of item at w (item_offset item rest widths) ++ instructions_from (at + size item w) rest widths
+-- the instructions of items with these widths and these places
+unfoldable pub instructions_from : List Item → List ℕ → List ℕ → List Entry
+instructions_from [] widths places = []
+instructions_from (item ∷ rest) [] places = []
+instructions_from (item ∷ rest) (w ∷ widths) [] = []
+instructions_from (item ∷ rest) (w ∷ widths) (at ∷ places) = instruction_of item at w (item_offset item rest widths) ++ instructions_from rest widths places
 
+-- the instructions of the layout
 abbrev pub instructions_of : List Item → List Entry
-instructions_of items = instructions_from 0 items (item_widths items)
+instructions_of items = instructions_from items (item_widths items) (layout items).places

@@ -5,9 +5,11 @@
 mod laws;
 mod listing;
 mod printing;
+mod sharing;
 #[cfg(test)]
 mod tests;
 
 pub use laws::{assembled_codes_are_listed, listings_are_determined};
 pub use listing::{Line, list};
 pub use printing::{line_text, print};
+pub use sharing::types_are_shared;
