@@ -1,4 +1,4 @@
--- The counters: their numbers and names.
+-- The counters: their numbers and names. This project's own table, after ApfFilter of Android 10.
 use Rattle.std.specs.Prelude.{ℕ, ◌==◌, List, [], ◌∷◌, Option, codes}
 use Rattle.std.specs.List.{find}
 use Rattle.data_counters.specs.declared.counter.Counter.{Counter}

@@ -1,4 +1,5 @@
--- The memory that holds the counters: 128 bytes, of which each four are a big-endian word.
+-- The memory that holds the counters: 128 bytes, of which each four are a big-endian word. This project's own layout,
+-- after version 4 of the Android Packet Filter.
 use Rattle.std.specs.Prelude.{◌≡◌, ℕ, ◌+◌, ◌-◌, ◌*◌, ◌%◌, ◌^◌, ◌<◌, List, ◌++◌, take, drop, slice_range}
 use Rattle.std.specs.Int.{w32, from_be_bytes, to_be_bytes}
 use Rattle.data_counters.specs.declared.counter.Counter.{Counter}

@@ -1,4 +1,4 @@
--- Fields of a frame.
+-- Fields of a frame, by their places. Numbers are big-endian, as in the headers of RFC 791 and its kin.
 use Rattle.std.specs.Prelude.{ℕ, ◌+◌, ◌*◌, ◌^◌, nat_lt, if◌then◌else◌, List, [], ◌∷◌, length, slice_range, Option, Some, None}
 
 -- the big-endian value of bytes

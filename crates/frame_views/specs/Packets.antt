@@ -1,4 +1,4 @@
--- Packets inside a frame.
+-- The IPv4 header (RFC 791, section 3.1), as what stands behind it is found by its length.
 use Rattle.std.specs.Prelude.{ℕ, ◌*◌, ◌/◌, ◌%◌, ◌==◌, if◌then◌else◌, List, slice_index}
 
 -- four times the low nibble of byte 14 where its high nibble is 4. A frame that lacks this byte is as one with a zero there

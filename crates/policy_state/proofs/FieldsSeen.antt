@@ -1,6 +1,6 @@
 -- What an instruction loads is the field that a question reads.
 use Rattle.std.proofs.Common.{◌≡◌, ℕ, ◌+◌, List, length, refl}
-use Rattle.std.specs.Prelude.{nat_lt, if◌then◌else◌, slice_range, Option, Some, None}
+use Rattle.std.specs.Prelude.{nat_lt, if◌then◌else◌, slice_range, Some, None}
 use Rattle.apf_coding.specs.Meaning.{frame_number}
 use Rattle.apf_coding.specs.Run.{header_length as header_slot}
 use Rattle.frame_views.specs.Fields.{field, part}

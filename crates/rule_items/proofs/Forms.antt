@@ -13,8 +13,9 @@ use Rattle.apf_asm.specs.declared.item.Item.{Item}
 use Rattle.apf_asm.specs.declared.item.Item.TheVariants as items
 use Rattle.apf_asm.specs.declared.item.Target.{Target}
 use Rattle.apf_asm.specs.declared.item.Target.TheVariants as targets
-use Rattle.apf_asm.specs.Items.{marks, IsItemForm, IsLabelled}
+use Rattle.apf_asm.specs.Items.{IsItemForm, IsLabelled}
 use Rattle.apf_asm.specs.Refusals.{stands}
+use Rattle.apf_asm.proofs.LabelPlaces.{stands-append}
 use Rattle.rule_items.specs.Building.{to_end, fixed, count, jump_if, jump_if_r1, jump, jump_unless}
 use Rattle.rule_items.specs.Fragment.{Lands, LandsOf, AllLand, labels}
 use Rattle.rule_items.proofs.Language.{HasWord}
@@ -22,23 +23,19 @@ use Rattle.rule_items.proofs.Rules.{label_of-below}
 
 -- ---- labels
 
+or_true : (b : Bool) → b || true ≡ true
+or_true true = refl
+or_true false = refl
+
 pub stands-here : (l : ℕ) (xs ys : List Item) → stands l (xs ++ (items.Label l ∷ ys)) ≡ true
 unfolding stands
-stands-here l [] ys = ap (λ (b : Bool). b || stands l ys) (eq-eqb l l refl)
-stands-here l (x ∷ xs) ys = ap (λ (b : Bool). marks l x || b) (stands-here l xs ys) ∙ or_true (marks l x)
-  where
-    or_true : (b : Bool) → b || true ≡ true
-    or_true true = refl
-    or_true false = refl
+stands-here l xs ys = stands-append l xs (items.Label l ∷ ys) ∙ ap (λ (b : Bool). stands l xs || (b || stands l ys)) (eq-eqb l l refl) ∙ or_true (stands l xs)
 
 pub stands-more : (l : ℕ) (xs ys : List Item) → stands l xs ≡ true → stands l (xs ++ ys) ≡ true
-unfolding stands
-stands-more l [] ys e = absurd (false≢true e)
-stands-more l (x ∷ xs) ys e = go (marks l x) (stands l xs) e (stands-more l xs ys)
-  where
-    go : (b c : Bool) → (b || c) ≡ true → (c ≡ true → stands l (xs ++ ys) ≡ true) → (b || stands l (xs ++ ys)) ≡ true
-    go true c e more = refl
-    go false c e more = more e
+stands-more l xs ys e = stands-append l xs ys ∙ ap (λ (b : Bool). b || stands l ys) e
+
+pub stands-later : (l : ℕ) (xs ys : List Item) → stands l ys ≡ true → stands l (xs ++ ys) ≡ true
+stands-later l xs ys e = stands-append l xs ys ∙ ap (λ (b : Bool). stands l xs || b) e ∙ or_true (stands l xs)
 
 pub labels-append : (xs ys : List Item) → labels (xs ++ ys) ≡ labels xs ++ labels ys
 unfolding labels

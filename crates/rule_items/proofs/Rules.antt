@@ -17,8 +17,9 @@ use Rattle.apf_asm.specs.declared.item.Item.{Item}
 use Rattle.apf_asm.specs.declared.item.Item.TheVariants as items
 use Rattle.apf_asm.specs.declared.item.Target.{Target}
 use Rattle.apf_asm.specs.declared.item.Target.TheVariants as targets
-use Rattle.apf_asm.specs.Items.{fixed_instruction, jump_instruction, marks}
+use Rattle.apf_asm.specs.Items.{fixed_instruction, jump_instruction}
 use Rattle.apf_asm.specs.Refusals.{stands}
+use Rattle.apf_asm.proofs.LabelPlaces.{stands-append}
 use Rattle.rule_items.specs.Building.{label_of, to_end, fixed, count, jump_if, jump_if_r1, jump, jump_unless}
 use Rattle.rule_items.specs.Saying.{Said, Missing, Says, Silent, End, with_registers, counted, Follows, IsReady, Tells}
 use Rattle.rule_items.proofs.Language.{Language, said_first, reading}
@@ -50,13 +51,7 @@ above_two l k b lt le e = go (eqb k l) refl
     go false h = e
 
 pub stands-both : (l : ℕ) (xs ys : List Item) → stands l xs ≡ false → stands l ys ≡ false → stands l (xs ++ ys) ≡ false
-unfolding stands
-stands-both l [] ys e f = f
-stands-both l (x ∷ xs) ys e f = go (marks l x) (stands l xs) e (stands-both l xs ys)
-  where
-    go : (b c : Bool) → (b || c) ≡ false → (c ≡ false → stands l ys ≡ false → stands l (xs ++ ys) ≡ false) → (b || stands l (xs ++ ys)) ≡ false
-    go true c e more = absurd cc
-    go false c e more = more e f
+stands-both l xs ys e f = stands-append l xs ys ∙ ap (λ (b : Bool). b || stands l ys) e ∙ f
 
 -- ---- what jumps ask
 

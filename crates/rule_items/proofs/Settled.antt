@@ -1,5 +1,5 @@
 -- Items whose jumps lead on, and whose labels stand once, are refused for no label.
-use Rattle.std.proofs.Common.{◌≡◌, ℕ, ◌+◌, ◌<◌, Bool, true, false, cond, eqb, List, [], ◌∷◌, ◌++◌, Option, Some, None, refl, sym, subst, ◌∙◌, inl, inr}
+use Rattle.std.proofs.Common.{ap, ◌∙◌, ◌≡◌, ℕ, ◌+◌, ◌<◌, Bool, true, false, cond, eqb, List, [], ◌∷◌, ◌++◌, Option, Some, None, refl, sym, subst, ◌∙◌, inl, inr}
 use Rattle.std.specs.Prelude.{◌||◌}
 use Rattle.std.proofs.lemmas.Bool.{false≢true, eqb-true, eq-eqb}
 use Rattle.apf_asm.specs.declared.item.Item.{Item}
@@ -10,7 +10,8 @@ use Rattle.apf_asm.specs.declared.item.AsmError.{AsmError}
 use Rattle.apf_asm.specs.Items.{marks}
 use Rattle.apf_asm.specs.Refusals.{stands, target_refused, refused, first, refused_from}
 use Rattle.rule_items.specs.Fragment.{Lands, LandsOf, IsApart, labels}
-use Rattle.rule_items.proofs.Forms.{AllSound, stands-more}
+use Rattle.rule_items.proofs.Forms.{AllSound, stands-more, stands-later}
+use Rattle.rule_items.proofs.Rules.{stands-both}
 
 -- ---- labels
 
@@ -82,16 +83,7 @@ item_ok number before rest (items.Jump j) h new = target_ok number before rest j
 
 stands-push : (l : ℕ) (xs : List Item) (x : Item) → stands l xs ≡ false → marks l x ≡ false → stands l (xs ++ x ∷ []) ≡ false
 unfolding stands
-stands-push l [] x e f = go (marks l x) f
-  where
-    go : (b : Bool) → b ≡ false → b || false ≡ false
-    go true f = f
-    go false f = refl
-stands-push l (y ∷ xs) x e f = go (marks l y) (stands l xs) e (λ h. stands-push l xs x h f)
-  where
-    go : (b c : Bool) → (b || c) ≡ false → (c ≡ false → stands l (xs ++ x ∷ []) ≡ false) → (b || stands l (xs ++ x ∷ [])) ≡ false
-    go true c e more = e
-    go false c e more = more e
+stands-push l xs x e f = stands-both l xs (x ∷ []) e (ap (λ (b : Bool). b || false) f)
 
 abbrev label_list : Item → List ℕ → List ℕ
 label_list (items.Label l) ls = l ∷ ls
@@ -130,11 +122,6 @@ none_refused (x ∷ xs) before number lead apart new =
     (λ l there. stands-push l before x (new l (or_right (marks l x) (stands l xs) there)) (not_marked l x xs split.0 there)))
 
 -- ---- fragments before items that have the labels of both ends
-
-stands-later : (l : ℕ) (xs ys : List Item) → stands l ys ≡ true → stands l (xs ++ ys) ≡ true
-unfolding stands
-stands-later l [] ys e = e
-stands-later l (x ∷ xs) ys e = or_right (marks l x) (stands l (xs ++ ys)) (stands-later l xs ys e)
 
 leads_of : (xs ys : List Item) (to : Target) → Lands xs to → ((l : ℕ) → l < 2 → stands l ys ≡ true) → Leads (xs ++ ys) to
 leads_of xs ys (targets.Label l) h both = elim h [ inl lt ↦ stands-later l xs ys (both l lt) | inr e ↦ stands-more l xs ys e ]
