@@ -1,5 +1,5 @@
 -- A frame that is the same has the same options, with the same lifetimes.
-use Rattle.std.proofs.Common.{◌≡◌, ℕ, zero, suc, ◌+◌, ◌-◌, ◌*◌, ◌<◌, ◌≤◌, Bool, true, false, cond, eqb, List, [], ◌∷◌, ◌++◌, length, take, drop, get_or, Option, None, Some, Result, Ok, Err, refl, sym, ap, subst, ◌∙◌, arith, eqb-true, drop-drop, ltb-false, lit≤, length-drop}
+use Rattle.std.proofs.Common.{◌≡◌, ℕ, zero, suc, ◌+◌, ◌-◌, ◌*◌, ◌≤◌, Bool, true, false, cond, List, [], ◌∷◌, ◌++◌, length, take, drop, get_or, Option, None, Some, Result, Ok, Err, refl, sym, ap, subst, ◌∙◌, arith, eqb-true, drop-drop, ltb-false, lit≤, length-drop}
 use Rattle.std.specs.Prelude.{◌&&◌, ◌||◌, ◌==◌, nat_lt, slice_index, slice_range, bytes_eq}
 use Rattle.std.specs.List.{list_all}
 use Rattle.std.proofs.lemmas.Slice.Eq.{bytes_eq-Decides}
@@ -9,10 +9,10 @@ use Rattle.ra_records.specs.declared.span.RaError.{RaError}
 use Rattle.ra_records.specs.declared.span.RaError.TheVariants.{NotRa, Short, TooLong, CutOption, ZeroOption, ShortOption}
 use Rattle.ra_records.specs.Masks.{span, is_masked, same_outside, between, is_equal, IsRising}
 use Rattle.ra_records.specs.Options.{lifetimes_of, size_of, option_refusal, with_front, unless_refused, options_from}
-use Rattle.ra_records.specs.Advert.{router, holds, candidate, lifetimes_in, masks, sections_of, is_same, IsSound}
+use Rattle.ra_records.specs.Advert.{router, holds, candidate, lifetimes_in, masks, is_same, IsSound}
 use Rattle.ra_records.proofs.Sections.{covers, before, above, same-sections}
 use Rattle.ra_records.proofs.Rising.{masks_rise}
-use Rattle.ra_records.proofs.Walk.{IsWhole, whole, rise_more, good, IsGood, sound}
+use Rattle.ra_records.proofs.Walk.{whole, rise_more, good, sound}
 
 and_true : (a b : Bool) → (a && b) ≡ true → (a ≡ true) × (b ≡ true)
 and_true true b h = (refl, h)

@@ -1,6 +1,6 @@
 -- The least of the numbers in ranges.
-use Rattle.std.proofs.Common.{◌≡◌, ℕ, ◌+◌, ◌≤◌, ◌^◌, ◌-◌, List, [], ◌∷◌, length, Option, None, Some, Bool, cond, min, refl, ap, sym, ◌∙◌, lit≤, le-ltb, All, arith}
-use Rattle.std.specs.Prelude.{nat_lt, slice_range}
+use Rattle.std.proofs.Common.{◌≡◌, ℕ, ◌+◌, ◌≤◌, ◌^◌, ◌-◌, List, [], ◌∷◌, length, None, Some, Bool, cond, min, ap, sym, ◌∙◌, lit≤, le-ltb, All, arith}
+use Rattle.std.specs.Prelude.{slice_range}
 use Rattle.std.specs.List.{AllByRecursion}
 use Rattle.std.proofs.Math.Nat.{min-le_left, min-le_right, min-eq_left, min-eq_right}
 use Rattle.std.proofs.lemmas.List.Elements.{All-from_recursion}

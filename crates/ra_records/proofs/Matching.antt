@@ -1,11 +1,11 @@
 -- A frame is the same exactly where all sections are equal.
-use Rattle.std.proofs.Common.{◌≡◌, ℕ, ◌+◌, ◌<◌, ◌≤◌, Bool, true, false, eqb, List, [], ◌∷◌, ◌++◌, length, take, drop, take_at, refl, sym, ap, subst, ◌∙◌, arith, All, Result, Ok, Err, eq-eqb, ne_eqb, eqb-true}
-use Rattle.std.specs.Prelude.{◌≢◌, ◌&&◌, ◌==◌}
+use Rattle.std.proofs.Common.{◌≡◌, ℕ, Bool, true, false, eqb, List, ◌++◌, length, take, drop, take_at, refl, sym, ap, subst, ◌∙◌, All, Result, Ok, Err, eq-eqb, ne_eqb, eqb-true}
+use Rattle.std.specs.Prelude.{◌≢◌, ◌&&◌}
 use Rattle.std.specs.List.{list_all}
 use Rattle.ra_records.specs.declared.span.Span.{Span}
 use Rattle.ra_records.specs.declared.span.RaError.{RaError}
 use Rattle.ra_records.specs.declared.span.RaError.TheVariants.{OutOfMemory}
-use Rattle.ra_records.specs.Masks.{IsRising, IsWithin, IsNumber, is_equal, between, same_outside}
+use Rattle.ra_records.specs.Masks.{IsWithin, IsNumber, is_equal, between, same_outside}
 use Rattle.ra_records.specs.Advert.{Advert, masks, sections_of, is_same, same, IsSound, IsHeld, lifetimes_in, advert, seen_at, least_in}
 use Rattle.ra_records.proofs.Sections.{same-sections}
 use Rattle.ra_records.proofs.Rising.{sections_within, masks_rise, lifetimes_are_numbers}

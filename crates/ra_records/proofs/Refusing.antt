@@ -1,11 +1,11 @@
 -- The grammar's refusals: want of memory is none of them.
-use Rattle.std.proofs.Common.{◌≡◌, ℕ, zero, suc, ◌+◌, ◌*◌, ◌-◌, Bool, true, false, cond, List, [], ◌∷◌, length, drop, Option, None, Some, Result, Ok, Err, refl, sym, ap, ◌∙◌}
+use Rattle.std.proofs.Common.{◌≡◌, ℕ, zero, suc, ◌+◌, ◌*◌, ◌-◌, Bool, true, false, cond, List, [], ◌∷◌, length, drop, Option, None, Some, Result, Ok, Err, ap}
 use Rattle.std.specs.Prelude.{◌≢◌, ◌==◌, ◌&&◌, nat_lt, slice_index}
 use Rattle.ra_records.specs.declared.span.Span.{Span}
 use Rattle.ra_records.specs.declared.span.RaError.{RaError}
 use Rattle.ra_records.specs.declared.span.RaError.TheVariants.{NotRa, Short, TooLong, CutOption, ZeroOption, ShortOption, OutOfMemory}
 use Rattle.ra_records.specs.Options.{lifetimes_of, size_of, option_refusal, with_front, unless_refused, options_from}
-use Rattle.ra_records.specs.Advert.{Advert, router, candidate, lifetimes_in, seen_at, advert}
+use Rattle.ra_records.specs.Advert.{router, candidate, lifetimes_in, seen_at, advert}
 
 abbrev Ranges : Type 0
 Ranges = Result (List Span) RaError

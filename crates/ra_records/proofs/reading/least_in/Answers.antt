@@ -1,4 +1,4 @@
-use Rattle.std.proofs.Common.{◌≡◌, ◌∙◌, drop_of_length-le, arith, lit≤}
+use Rattle.std.proofs.Common.{◌∙◌, drop_of_length-le, lit≤}
 use Rattle.ra_records.proofs.Least.{least_first, least_last}
 use Rattle.ra_records.proofs.reading.least_in.Goals as goal
 

@@ -1,6 +1,6 @@
-use Rattle.std.proofs.Common.{◌≡◌, ◌+◌, ◌*◌, ℕ, List, drop, length, arith, sym, ap, subst, ◌∙◌, length-drop}
+use Rattle.std.proofs.Common.{◌+◌, ◌*◌, ℕ, drop, length, arith, sym, ap, ◌∙◌, length-drop}
 use Rattle.ra_records.specs.Options.{options_from, with_front}
-use Rattle.ra_records.proofs.Walk.{goes_on, whole, stops}
+use Rattle.ra_records.proofs.Walk.{goes_on, whole}
 use Rattle.ra_records.proofs.reading.read_lifetimes.Goals as goal
 
 pub loop-rest-preserved : goal.loop-rest-preserved

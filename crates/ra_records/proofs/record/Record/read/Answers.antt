@@ -1,6 +1,6 @@
-use Rattle.std.proofs.Common.{◌≡◌, ℕ, List, Result, Ok, Err, sym, ap, ◌∙◌}
+use Rattle.std.proofs.Common.{List, ap, ◌∙◌}
 use Rattle.ra_records.specs.declared.span.Span.{Span}
-use Rattle.ra_records.specs.Advert.{Advert, sections_of, least_in}
+use Rattle.ra_records.specs.Advert.{sections_of, least_in}
 use Rattle.ra_records.proofs.Walk.{sound}
 use Rattle.ra_records.proofs.Matching.{found, numbers_of, seen_ok, seen_err, held}
 use Rattle.ra_records.proofs.record.Record.read.Goals as goal
