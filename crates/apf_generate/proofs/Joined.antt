@@ -8,8 +8,8 @@ use Rattle.rule_items.specs.Fragment.{IsPart, Emits}
 use Rattle.rule_items.specs.Saying.{Said}
 use Rattle.rule_items.proofs.Language.{said_first}
 use Rattle.rule_items.proofs.Parts.{part-then, part-same}
-use Rattle.arp_rules.specs.Rulings.{said_of}
-use Rattle.arp_rules.proofs.Language.{said-otherwise}
+use Rattle.rule_items.specs.Rulings.{said_of}
+use Rattle.rule_items.proofs.Rulings.{said-otherwise}
 use Rattle.apf_generate.specs.Listing.{ip_items, last_items}
 use Rattle.apf_generate.specs.Program.{asked, HoldsQuestions}
 use Rattle.apf_generate.proofs.Others.{others_part}

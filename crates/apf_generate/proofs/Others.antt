@@ -16,9 +16,9 @@ use Rattle.rule_items.specs.Saying.{Tells}
 use Rattle.rule_items.proofs.Forms.{IsSound, bytes_fit, sound-nil, sound-byte, sound-if_end, sound-jump_end, sound-unless_end}
 use Rattle.rule_items.proofs.Parts.{fragment-of}
 use Rattle.rule_items.proofs.Rules.{done, restated, counts, places, reads_half, answers, answers_if, answers_unless, told}
-use Rattle.arp_rules.specs.Rulings.{said_of}
-use Rattle.arp_rules.proofs.Language.{rulings}
-use Rattle.arp_rules.proofs.Sound.{sound-counting}
+use Rattle.rule_items.specs.Rulings.{said_of}
+use Rattle.rule_items.proofs.Rulings.{rulings}
+use Rattle.rule_items.proofs.Rulings.{sound-counting}
 use Rattle.apf_generate.specs.Listing.{ip_items, last_items}
 
 -- ---- the rulings as the items come to them are those of the table

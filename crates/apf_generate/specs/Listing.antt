@@ -7,8 +7,7 @@ use Rattle.apf_asm.specs.declared.item.Item.TheVariants as items
 use Rattle.apf_asm.specs.declared.item.Target.TheVariants as targets
 use Rattle.data_counters.specs.declared.counter.Counter.TheVariants.{PassedIpv4, PassedIpv6Icmp, PassedNonIpUnicast, DroppedEthBroadcast}
 use Rattle.policy_state.specs.Ethernet.{broadcast}
-use Rattle.rule_items.specs.Building.{to_end, fixed, load, place, jump_if, jump, jump_unless}
-use Rattle.arp_rules.specs.Listing.{counting}
+use Rattle.rule_items.specs.Building.{to_end, fixed, load, place, counting, jump_if, jump, jump_unless}
 
 -- one more in the word at a distance from R1; a distance from 128 on is one of minus 256 more
 abbrev pub raising_items : ℕ → List Item

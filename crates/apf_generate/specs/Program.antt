@@ -6,7 +6,7 @@ use Rattle.policy_state.specs.Asking.{first_of}
 use Rattle.policy_state.specs.Policy.{questions}
 use Rattle.rule_items.specs.Fragment.{IsPart}
 use Rattle.rule_items.specs.Saying.{Said}
-use Rattle.arp_rules.specs.Rulings.{said_of}
+use Rattle.rule_items.specs.Rulings.{said_of}
 use Rattle.apf_generate.specs.Listing.{between_ends}
 
 -- what the policy says of a frame of more than 14 bytes

@@ -12,7 +12,7 @@ use apf_coding::{Op, Verdict};
 use arp_rules::{emit_arp, emit_link};
 use data_counters::Counter;
 use policy_state::Basis;
-use rule_items::{count, fixed, jump, jump_if, jump_unless, load, place, to_end};
+use rule_items::{counting, fixed, jump, jump_if, jump_unless, load, place, to_end};
 use std::alloc::Global;
 
 /// The broadcast MAC.
@@ -40,9 +40,9 @@ fn ip_items(alloc: Global) -> Result<List<Item>, OutOfMemory>
         alloc,
         [
             load(alloc, Op::Ldh, 12),
-            count(alloc, Counter::PassedIpv4.number()),
+            counting(alloc, Counter::PassedIpv4),
             jump_if(alloc, Op::Jeq, 0x800, to_end(Verdict::Pass)),
-            count(alloc, Counter::PassedIpv6Icmp.number()),
+            counting(alloc, Counter::PassedIpv6Icmp),
             jump_if(alloc, Op::Jeq, 0x86dd, to_end(Verdict::Pass)),
         ],
     )
@@ -57,9 +57,9 @@ fn last_items(alloc: Global) -> Result<List<Item>, OutOfMemory>
         alloc,
         [
             place(alloc, 0),
-            count(alloc, Counter::PassedNonIpUnicast.number()),
+            counting(alloc, Counter::PassedNonIpUnicast),
             unicast,
-            count(alloc, Counter::DroppedEthBroadcast.number()),
+            counting(alloc, Counter::DroppedEthBroadcast),
             jump(alloc, to_end(Verdict::Drop)),
         ],
     )

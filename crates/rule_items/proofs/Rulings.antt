@@ -1,13 +1,16 @@
 -- The policy's rulings as a language.
-use Rattle.std.proofs.Common.{◌≡◌, refl, arith}
+use Rattle.std.proofs.Common.{◌≡◌, List, ◌∷◌, refl, arith}
+use Rattle.apf_asm.specs.declared.item.Item.{Item}
 use Rattle.data_counters.specs.declared.counter.Counter.{Counter}
 use Rattle.data_counters.specs.Counters.{number_of}
 use Rattle.data_counters.proofs.Apart.{IsCounterNumber, number_of-range}
 use Rattle.policy_state.specs.declared.ruling.Ruling.{Ruling}
 use Rattle.policy_state.specs.declared.ruling.Ruling.TheVariants.{Missing, Says, Silent}
 use Rattle.policy_state.specs.Asking.{otherwise}
+use Rattle.rule_items.specs.Building.{counting}
+use Rattle.rule_items.proofs.Forms.{IsSound, sound-count}
 use Rattle.rule_items.proofs.Language.{Language, HasWord, said_first}
-use Rattle.arp_rules.specs.Rulings.{said_of}
+use Rattle.rule_items.specs.Rulings.{said_of}
 
 pub said-otherwise : (a b : Ruling) → said_of (otherwise a b) ≡ said_first (said_of a) (said_of b)
 said-otherwise Silent b = refl
@@ -31,3 +34,6 @@ rulings = record {
   said-otherwise = said-otherwise;
   has_word = has_word;
 }
+
+pub sound-counting : (c : Counter) (xs : List Item) → IsSound xs → IsSound (counting c ∷ xs)
+sound-counting c xs s = sound-count (number_of c) xs (has_word c) s
