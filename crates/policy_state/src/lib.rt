@@ -11,6 +11,7 @@ mod copies;
 mod deciding;
 mod laws;
 mod link;
+mod records;
 mod ruling;
 mod sharing;
 mod state;
@@ -18,7 +19,7 @@ mod state;
 mod tests;
 mod update;
 
-pub use basis::{Answer, Basis, Script, Timed, UpdateReply};
+pub use basis::{Answer, Basis, Chosen, Script, Timed, UpdateReply};
 pub use config::Config;
 pub use deciding::decide;
 pub use laws::{counters_tell_verdicts, questions_are_answered};

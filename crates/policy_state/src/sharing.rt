@@ -1,7 +1,7 @@
 //! The types may be handed to and shared with other threads.
 
 use crate::{
-    Address, Answer, Basis, Changed, Config, FilterState, Keepalive, Script, StateError, Timed,
+    Address, Answer, Basis, Changed, Chosen, Config, FilterState, Keepalive, Script, StateError, Timed,
     Update, UpdateReply,
 };
 
@@ -18,6 +18,7 @@ pub fn types_are_shared() {
     is_shared::<StateError>();
     is_shared::<Timed>();
     is_shared::<Script>();
+    is_shared::<Chosen>();
     is_shared::<Basis>();
     is_shared::<Answer>();
     is_shared::<UpdateReply>();
