@@ -4,5 +4,7 @@ pub mod Generated
 pub mod Joined
 pub mod OneWay
 pub mod Others
+pub mod RaForm
+pub mod RaRuling
 pub mod Raising
 pub mod WordsSeen

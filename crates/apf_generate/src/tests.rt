@@ -60,6 +60,7 @@ fn programs_decide_as_the_policy(rt: HostRuntime) -> Result<(), Fail> {
             }),
             keepalives: [None; 8],
         },
+        chosen: List::new(rt.alloc()),
     };
     let code = generate(rt.alloc(), &basis)?;
     assert!(rt; code.len() <= 512);
