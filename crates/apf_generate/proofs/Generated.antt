@@ -13,7 +13,7 @@ use Rattle.apf_generate.specs.Program.{IsProgram}
 use Rattle.apf_generate.specs.Sizes.{base_of}
 use Rattle.apf_generate.proofs.AnyProgram.{forms, few_items, length-bytes, means_of, not_refused}
 
-small : (n : ℕ) → n ≤ 32 → 182 + 9 * n ≤ 65000
+small : (n : ℕ) → n ≤ 32 → 484 + 9 * n ≤ 65000
 small n le = omega arith
 
 module _ (basis : Basis) (xs : List Item) (few : length basis.config.deny ≤ 32) (p : IsProgram basis xs) where
@@ -29,7 +29,7 @@ module _ (basis : Basis) (xs : List Item) (few : length basis.config.deny ≤ 32
   pub code_means : (code : List ℕ) → code ≡ (layout xs).bytes → Means code basis
   code_means code e = subst (λ (c : List ℕ). Means c basis) (sym (code_is code e)) (means_of basis p.holds.to _ p.questions p.holds.part (small _ few))
 
-  length-code : (code : List ℕ) → code ≡ (layout xs).bytes → length code ≤ 210 + 9 * length basis.config.deny
+  length-code : (code : List ℕ) → code ≡ (layout xs).bytes → length code ≤ 512 + 9 * length basis.config.deny
   length-code code e = omega (arith, ap length (code_is code e), length-bytes basis p.holds.to _ p.questions p.holds.part (small _ few))
 
   pub code_short : (code : List ℕ) → code ≡ (layout xs).bytes → length code ≤ base_of basis

@@ -1,6 +1,7 @@
 pub mod AnyProgram
 pub mod Ends
 pub mod Generated
+pub mod Ip6Question
 pub mod Joined
 pub mod OneWay
 pub mod Others

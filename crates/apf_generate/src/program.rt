@@ -1,9 +1,9 @@
 //! The generator.
 
-ghost use Rattle.std.specs.Prelude.{◌≡◌, ◌≤◌, length, IfOk};
+ghost use Rattle.std.specs.Prelude.{◌≡◌, ◌≤◌, length, IfOk, OnOk};
 ghost use Rattle.apf_generate.specs.Means.{Means};
-ghost use Rattle.apf_generate.specs.Listing.{raising_items, ip_items, last_items, end_items};
-ghost use Rattle.apf_generate.specs.Program.{HoldsQuestions, IsProgram};
+ghost use Rattle.apf_generate.specs.Listing.{raising_items, ip_items, ip6_test_items, ip6_last_items, last_items, end_items};
+ghost use Rattle.apf_generate.specs.Program.{AddsIp6, HoldsQuestions, IsProgram};
 ghost use Rattle.apf_generate.specs.Sizes.{base_of};
 
 use apf_asm::{AsmError, Code, Item, Target, assemble};
@@ -11,6 +11,7 @@ use apf_base::{List, OutOfMemory};
 use apf_coding::{Op, Verdict};
 use arp_rules::{emit_arp, emit_link};
 use data_counters::Counter;
+use ip_rules::emit_ip6;
 use policy_state::Basis;
 use rule_items::{counting, fixed, jump, jump_if, jump_unless, load, place, to_end};
 use std::alloc::Global;
@@ -32,7 +33,7 @@ fn raising_items(alloc: Global, distance: u8) -> Result<List<Item>, OutOfMemory>
     )
 }
 
-/// IPv4 and IPv6 frames.
+/// IPv4 frames.
 fn ip_items(alloc: Global) -> Result<List<Item>, OutOfMemory>
     ensures { IfOk result (λ xs. xs ≡ ip_items) }
 {
@@ -42,10 +43,54 @@ fn ip_items(alloc: Global) -> Result<List<Item>, OutOfMemory>
             load(alloc, Op::Ldh, 12),
             counting(alloc, Counter::PassedIpv4),
             jump_if(alloc, Op::Jeq, 0x800, to_end(Verdict::Pass)),
-            counting(alloc, Counter::PassedIpv6Icmp),
-            jump_if(alloc, Op::Jeq, 0x86dd, to_end(Verdict::Pass)),
         ],
     )
+}
+
+/// Frames other than IPv6 go over its question.
+fn ip6_test_items(alloc: Global, over: u32) -> Result<List<Item>, OutOfMemory>
+    ensures { IfOk result (λ xs. xs ≡ ip6_test_items over) }
+{
+    List::of(
+        alloc,
+        [
+            load(alloc, Op::Ldh, 12),
+            jump_if(alloc, Op::Jne, 0x86dd, Target::Label(over)),
+        ],
+    )
+}
+
+/// An IPv6 packet that no rule answers.
+fn ip6_last_items(alloc: Global) -> Result<List<Item>, OutOfMemory>
+    ensures { IfOk result (λ xs. xs ≡ ip6_last_items) }
+{
+    List::of(
+        alloc,
+        [
+            counting(alloc, Counter::PassedIpv6Icmp),
+            jump(alloc, to_end(Verdict::Pass)),
+        ],
+    )
+}
+
+/// Appends the question on IPv6.
+fn add_ip6(
+    alloc: Global,
+    basis: &Basis,
+    next: &mut u32,
+    out: &mut List<Item>,
+) -> Result<(), OutOfMemory>
+    requires low { 2 ≤ next.old }
+    requires high { next.old ≤ 999999 }
+    ensures { OnOk result (AddsIp6 basis.now next.old next.new out.old out.new) }
+{
+    let over = *next;
+    *next += 1;
+    out.append(ip6_test_items(alloc, over)?)?;
+    emit_ip6(alloc, basis, next, out)?;
+    out.append(ip6_last_items(alloc)?)?;
+    out.push(Item::Label(over))?;
+    Ok(())
 }
 
 /// All other frames.
@@ -88,6 +133,7 @@ fn question_items(alloc: Global, basis: &Basis) -> Result<List<Item>, OutOfMemor
     emit_link(alloc, basis, &mut next, &mut items)?;
     emit_arp(alloc, basis, &mut next, &mut items)?;
     items.append(ip_items(alloc)?)?;
+    add_ip6(alloc, basis, &mut next, &mut items)?;
     items.append(last_items(alloc)?)?;
     Ok(items)
 }
