@@ -1,19 +1,23 @@
 -- Each answer has a counter of its verdict.
-use Rattle.std.proofs.Common.{◌≡◌, ◌≢◌, ℕ, ◌≤◌, Bool, true, false, not, eqb, List, length, Option, Some, None, refl, subst, lit≤}
+use Rattle.std.proofs.Common.{◌≡◌, ◌≢◌, ℕ, ◌≤◌, Bool, true, false, not, eqb, List, [], ◌∷◌, length, Option, Some, None, refl, subst, lit≤}
 use Rattle.std.proofs.lemmas.Bool.{ltb-false}
-use Rattle.std.specs.Prelude.{nat_lt, ◌&&◌, bytes_eq, if◌then◌else◌}
+use Rattle.std.specs.Prelude.{nat_lt, nat_le, map, ◌&&◌, bytes_eq, if◌then◌else◌}
 use Rattle.apf_coding.specs.declared.machine.Verdict.{Verdict}
 use Rattle.apf_coding.specs.declared.machine.Verdict.TheVariants.{Pass, Drop}
 use Rattle.data_counters.specs.declared.counter.Counter.{Counter}
-use Rattle.data_counters.specs.declared.counter.Counter.TheVariants.{PassedArp, PassedArpNonIpv4, PassedArpUnknown, PassedArpUnicastReply, PassedIpv4, PassedIpv6NonIcmp, PassedIpv6UnicastNonIcmp, PassedIpv6Icmp, PassedNonIpUnicast, Dropped8023Frame, DroppedEthertypeDenied, DroppedEthBroadcast, DroppedArpReplySpaNoHost, DroppedGarpReply, DroppedArpOtherHost, DroppedIpv6RouterSolicitation, DroppedIpv6MulticastNa, DroppedIpv6Multicast}
+use Rattle.data_counters.specs.declared.counter.Counter.TheVariants.{PassedArp, PassedArpNonIpv4, PassedArpUnknown, PassedArpUnicastReply, PassedIpv4, PassedIpv6NonIcmp, PassedIpv6UnicastNonIcmp, PassedIpv6Icmp, PassedNonIpUnicast, Dropped8023Frame, DroppedEthertypeDenied, DroppedEthBroadcast, DroppedArpReplySpaNoHost, DroppedGarpReply, DroppedArpOtherHost, DroppedRa, DroppedIpv6RouterSolicitation, DroppedIpv6MulticastNa, DroppedIpv6Multicast}
 use Rattle.data_counters.specs.Counters.{number_of}
 use Rattle.policy_state.specs.declared.basis.Basis.{Basis}
+use Rattle.policy_state.specs.declared.basis.Chosen.{Chosen}
 use Rattle.policy_state.specs.declared.state.Address.{Address}
 use Rattle.policy_state.specs.declared.ruling.Ruling.{Ruling}
 use Rattle.policy_state.specs.declared.ruling.Ruling.TheVariants as rulings
 use Rattle.policy_state.specs.Asking.{reading, when, otherwise, first_of}
 use Rattle.frame_views.specs.Fields.{field, part}
 use Rattle.policy_state.specs.Ethernet.{destination, ethertype, broadcast}
+use Rattle.ra_records.specs.Advert.{same}
+use Rattle.std.specs.List.{list_all}
+use Rattle.policy_state.specs.Records.{lasts, advertised_again}
 use Rattle.policy_state.specs.Policy.{is_denied, frames_802_3, denied_types, link, for_other_addresses, unknown_operations, replies_of_no_host, unicast_replies, arp_opening, arp_operation, arp_sender, arp_target, gratuitous_arp, arp_for_other_hosts, arp, ip4, ip6, others, questions}
 use Rattle.policy_state.specs.Ip6.{next_header, icmp_type, by_destination, echo_requests, ip6_multicast, ip6_other_than_icmp, router_solicitations, all_nodes, advertisements_to_all_nodes, ip6_header_lines}
 use Rattle.policy_state.specs.Whole.{Short, Says, fate_of, policy}
@@ -137,10 +141,18 @@ told_header_lines basis frame =
     (told_otherwise _ _ (told_solicitations frame)
     (told_otherwise _ _ (told_advertisements frame) told_silent)))
 
+told_record : (chosen : Chosen) (age : ℕ) (frame : List ℕ) → IsTold (advertised_again chosen age frame)
+told_record chosen age frame = told_when (nat_le age chosen.hold && (same chosen.advert frame && list_all (lasts chosen.hold frame) chosen.advert.lifetimes)) _ (told_says Drop DroppedRa (record { least = lit≤ tt; most = lit≤ tt }))
+
+told_records : (chosen : List Chosen) (age : ℕ) (frame : List ℕ) → IsTold (first_of (map (λ one. advertised_again one age frame) chosen))
+told_records [] age frame = told_silent
+told_records (one ∷ chosen) age frame = told_otherwise _ _ (told_record one age frame) (told_records chosen age frame)
+
 told_ip6 : (basis : Basis) (age : ℕ) (frame : List ℕ) → IsTold (ip6 basis age frame)
 told_ip6 basis age frame = told_reading (ethertype frame) _ (λ e. told_when (eqb e 0x86dd) _
     (told_otherwise _ _ (told_header_lines basis frame)
-    (told_otherwise _ _ (told_says Pass PassedIpv6Icmp (record { least = lit≤ tt; most = lit≤ tt })) told_silent)))
+    (told_otherwise _ _ (told_records basis.chosen age frame)
+    (told_otherwise _ _ (told_says Pass PassedIpv6Icmp (record { least = lit≤ tt; most = lit≤ tt })) told_silent))))
 
 told_others : (frame : List ℕ) → IsTold (others frame)
 told_others frame = told_reading (destination frame) _ (λ m. told_if (bytes_eq m broadcast) _ _ (told_says Drop DroppedEthBroadcast (record { least = lit≤ tt; most = lit≤ tt })) (told_says Pass PassedNonIpUnicast (record { least = lit≤ tt; most = lit≤ tt })))

@@ -8,6 +8,7 @@ use Rattle.policy_state.specs.declared.basis.Basis.{Basis}
 use Rattle.policy_state.specs.declared.ruling.Ruling.{Ruling}
 use Rattle.policy_state.specs.declared.ruling.Ruling.TheVariants.{Says}
 use Rattle.policy_state.specs.Asking.{reading, when, first_of}
+use Rattle.policy_state.specs.Records.{repeated_advertisements}
 
 -- ---- the IPv6 header and the ICMPv6 message
 
@@ -65,4 +66,4 @@ abbrev pub other_icmp6 : Ruling
 other_icmp6 = Says Pass PassedIpv6Icmp
 
 abbrev pub ip6_lines : Basis → ℕ → List ℕ → Ruling
-ip6_lines basis age frame = first_of (ip6_header_lines basis frame ∷ other_icmp6 ∷ [])
+ip6_lines basis age frame = first_of (ip6_header_lines basis frame ∷ repeated_advertisements basis age frame ∷ other_icmp6 ∷ [])

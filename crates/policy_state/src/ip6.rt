@@ -1,10 +1,13 @@
 //! The questions on IPv6.
 
-ghost use Rattle.std.specs.Prelude.{◌≡◌};
-ghost use Rattle.policy_state.specs.Ip6.{by_destination, echo_requests, ip6_multicast, ip6_other_than_icmp, router_solicitations, advertisements_to_all_nodes, ip6_header_lines, ip6_lines};
+ghost use Rattle.std.specs.Prelude.{◌≡◌, ◌∷◌, []};
+ghost use Rattle.policy_state.specs.Asking.{first_of};
+ghost use Rattle.policy_state.specs.Records.{repeated_advertisements};
+ghost use Rattle.policy_state.specs.Ip6.{by_destination, echo_requests, ip6_multicast, ip6_other_than_icmp, router_solicitations, advertisements_to_all_nodes, ip6_header_lines, other_icmp6, ip6_lines};
 ghost use Rattle.policy_state.specs.Policy.{ip6};
 
 use crate::Basis;
+use crate::records::repeated_advertisements;
 use crate::ruling::Ruling;
 use apf_coding::Verdict;
 use data_counters::Counter;
@@ -122,12 +125,22 @@ fn ip6_header_lines(basis: &Basis, frame: &[u8]) -> Ruling
     answer
 }
 
+/// ICMPv6 messages that the headers alone don't answer.
+fn other_messages(basis: &Basis, age: u32, frame: &[u8]) -> Ruling
+    ensures { result ≡ first_of (repeated_advertisements basis.now age frame.now ∷ other_icmp6 ∷ []) }
+{
+    match repeated_advertisements(basis, age, frame) {
+        Ruling::Silent => Ruling::Says(Verdict::Pass, Counter::PassedIpv6Icmp),
+        answer => answer,
+    }
+}
+
 /// Packets.
-fn ip6_lines(basis: &Basis, _age: u32, frame: &[u8]) -> Ruling
-    ensures { result ≡ ip6_lines basis.now _age frame.now }
+fn ip6_lines(basis: &Basis, age: u32, frame: &[u8]) -> Ruling
+    ensures { result ≡ ip6_lines basis.now age frame.now }
 {
     match ip6_header_lines(basis, frame) {
-        Ruling::Silent => Ruling::Says(Verdict::Pass, Counter::PassedIpv6Icmp),
+        Ruling::Silent => other_messages(basis, age, frame),
         answer => answer,
     }
 }

@@ -4,10 +4,10 @@ ghost use Rattle.std.specs.Prelude.{◌≡◌, length, map, All};
 ghost use Rattle.std.specs.List.{list_all};
 ghost use Rattle.ra_records.specs.Masks.{IsNumber};
 ghost use Rattle.policy_state.specs.Asking.{first_of};
-ghost use Rattle.policy_state.specs.Records.{lasts, advertised_again};
+ghost use Rattle.policy_state.specs.Records.{lasts, advertised_again, repeated_advertisements};
 
-use crate::Chosen;
 use crate::ruling::Ruling;
+use crate::{Basis, Chosen};
 use apf_coding::Verdict;
 use data_counters::Counter;
 use frame_views::number;
@@ -50,8 +50,8 @@ fn advertised_again(chosen: &Chosen, age: u32, frame: &[u8]) -> Ruling
     Ruling::Says(Verdict::Drop, Counter::DroppedRa)
 }
 
-/// Frames that match one of the chosen records.
-pub(crate) fn repeated_advertisements(chosen: &[Chosen], age: u32, frame: &[u8]) -> Ruling
+/// The first record that answers.
+fn first_again(chosen: &[Chosen], age: u32, frame: &[u8]) -> Ruling
     ensures { result ≡ first_of (map (λ one. advertised_again one age frame.now) chosen.now) }
 {
     for one in chosen {
@@ -61,4 +61,11 @@ pub(crate) fn repeated_advertisements(chosen: &[Chosen], age: u32, frame: &[u8])
         }
     }
     Ruling::Silent
+}
+
+/// Frames that match one of the chosen records.
+pub(crate) fn repeated_advertisements(basis: &Basis, age: u32, frame: &[u8]) -> Ruling
+    ensures { result ≡ repeated_advertisements basis.now age frame.now }
+{
+    first_again(basis.chosen.as_slice(), age, frame)
 }

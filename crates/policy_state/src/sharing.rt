@@ -1,8 +1,8 @@
 //! The types may be handed to and shared with other threads.
 
 use crate::{
-    Address, Answer, Basis, Changed, Chosen, Config, FilterState, Keepalive, Script, StateError, Timed,
-    Update, UpdateReply,
+    Address, Answer, Basis, Changed, Chosen, Config, FilterState, Keepalive, Script, StateError,
+    Timed, Update, UpdateReply,
 };
 
 fn is_shared<T: Send + Sync>() {}
