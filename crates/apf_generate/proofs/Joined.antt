@@ -1,5 +1,5 @@
 -- The emitted fragments and the items of the other questions answer all questions.
-use Rattle.std.proofs.Common.{◌≡◌, ℕ, ◌+◌, ◌*◌, ◌≤◌, List, [], ◌∷◌, ◌++◌, length, sym, ap, subst, ◌∙◌, append_assoc, arith}
+use Rattle.std.proofs.Common.{◌≡◌, ℕ, ◌+◌, ◌*◌, ◌≤◌, List, [], ◌++◌, length, sym, ap, subst, ◌∙◌, append_assoc, arith}
 use Rattle.apf_asm.specs.declared.item.Item.{Item}
 use Rattle.policy_state.specs.declared.basis.Basis.{Basis}
 use Rattle.policy_state.specs.declared.ruling.Ruling.{Ruling}
@@ -8,13 +8,13 @@ use Rattle.policy_state.specs.Asking.{otherwise}
 use Rattle.policy_state.specs.Policy.{link, arp, ip4, ip6, others}
 use Rattle.policy_state.proofs.AskingLaws.{otherwise-silent}
 use Rattle.rule_items.specs.Fragment.{IsPart, Emits}
-use Rattle.rule_items.specs.Saying.{Said}
 use Rattle.rule_items.proofs.Language.{said_first}
 use Rattle.rule_items.proofs.Parts.{part-then, part-same}
 use Rattle.rule_items.specs.Rulings.{said_of}
 use Rattle.rule_items.proofs.Rulings.{said-otherwise}
 use Rattle.apf_generate.specs.Listing.{ip_items, last_items}
 use Rattle.apf_generate.specs.Program.{asked, AddsIp6, HoldsQuestions}
+use Rattle.apf_generate.specs.Sizes.{weights}
 use Rattle.apf_generate.proofs.Others.{ip4_part, others_part}
 
 -- what is said question by question is what all questions say
@@ -41,15 +41,16 @@ pub joined : (basis : Basis) (two three to : ℕ) (x0 x1 x2 x3 x4 x5 i k : List 
     → Emits (λ age frame. said_of (arp basis frame)) 112 two three x1 x2
     → i ≡ ip_items → x3 ≡ x2 ++ i
     → AddsIp6 basis three to x3 x4
-    → k ≡ last_items → x5 ≡ x4 ++ k → HoldsQuestions basis x5
-joined basis two three to x0 x1 x2 x3 x4 x5 i k none first second p r fifth q s =
+    → k ≡ last_items → x5 ≡ x4 ++ k → length basis.chosen ≤ 1000 → HoldsQuestions basis x5
+joined basis two three to x0 x1 x2 x3 x4 x5 i k none first second p r fifth q s records =
     let from_two : 2 ≤ two = first.part.form.rises in
     let from_three : two ≤ three = second.part.form.rises in
     let n = length basis.config.deny in
-    let from_ip6 = part-then _ _ three to to 142 26 fifth.question last_items (omega arith) fifth.part (others_part to) in
-    let from_ip4 = part-then _ _ three three to 13 168 ip_items (fifth.question ++ last_items) (omega arith) (ip4_part three) from_ip6 in
-    let from_arp = part-then _ _ two three to 112 181 second.fragment (ip_items ++ (fifth.question ++ last_items)) from_two second.part from_ip4 in
-    let all = part-then _ _ 2 two to (20 + 9 * n) 293 first.fragment (second.fragment ++ (ip_items ++ (fifth.question ++ last_items))) (omega arith) first.part from_arp in
+    let w = weights basis.chosen in
+    let from_ip6 = part-then _ _ three to to (142 + w) 26 fifth.question last_items (omega arith) fifth.part (others_part to) in
+    let from_ip4 = part-then _ _ three three to 13 (142 + w + 26) ip_items (fifth.question ++ last_items) (omega arith) (ip4_part three) from_ip6 in
+    let from_arp = part-then _ _ two three to 112 (13 + (142 + w + 26)) second.fragment (ip_items ++ (fifth.question ++ last_items)) from_two second.part from_ip4 in
+    let all = part-then _ _ 2 two to (20 + 9 * n) (112 + (13 + (142 + w + 26))) first.fragment (second.fragment ++ (ip_items ++ (fifth.question ++ last_items))) (omega arith) first.part from_arp in
     let parts : x5 ≡ first.fragment ++ (second.fragment ++ (i ++ (fifth.question ++ k))) =
     chained first.fragment second.fragment i fifth.question k x0 x1 x2 x3 x4 x5 none first.appended second.appended r fifth.appended s
     ∙ regrouped first.fragment second.fragment i fifth.question k in
@@ -57,6 +58,6 @@ joined basis two three to x0 x1 x2 x3 x4 x5 i k none first second p r fifth q s 
     record {
       to = to;
       few = omega (arith, first.few, second.few, fifth.few);
-      part = subst (λ (xs : List Item). IsPart (asked basis) 2 to (484 + 9 * n) xs) (sym same)
-          (part-same _ (asked basis) 2 to _ (484 + 9 * n) _ (asked_said basis) (omega arith) all);
+      part = subst (λ (xs : List Item). IsPart (asked basis) 2 to (484 + 9 * n + w) xs) (sym same)
+          (part-same _ (asked basis) 2 to _ (484 + 9 * n + w) _ (asked_said basis) (omega arith) all);
     }

@@ -1,4 +1,5 @@
 pub mod AnyProgram
+pub mod Chosen
 pub mod Ends
 pub mod Generated
 pub mod Ip6Question

@@ -18,7 +18,7 @@ use Rattle.ra_records.proofs.Rising.{masks_rise, between_within, numbers}
 use Rattle.policy_state.specs.declared.basis.Chosen.{Chosen}
 use Rattle.policy_state.specs.Records.{advertised_again}
 use Rattle.size_fit.specs.Sizes.{section_weight, weight}
-use Rattle.rule_items.specs.Building.{to_end, fixed, jump_if, jump, jump_unless}
+use Rattle.rule_items.specs.Building.{fixed, jump_if, jump_unless}
 use Rattle.rule_items.specs.Fragment.{AreFresh, IsFragment, Emits, labels}
 use Rattle.rule_items.specs.Rulings.{said_of}
 use Rattle.rule_items.proofs.Forms.{IsSound, stands-here, sound-nil, sound-fixed, sound-byte, sound-if_label, sound-unless_label, sound-jump_end, sound-label}

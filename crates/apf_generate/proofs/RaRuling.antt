@@ -1,9 +1,9 @@
 -- The items of a record say what its question answers.
-use Rattle.std.proofs.Common.{◌≡◌, ℕ, zero, suc, ◌+◌, ◌-◌, ◌*◌, ◌<◌, ◌≤◌, ◌^◌, Bool, true, false, cond, not, eqb, ltb, leb, List, [], ◌∷◌, ◌++◌, length, get_or, take, drop, Option, Some, None, refl, sym, ap, subst, ◌∙◌, arith, lit<, length-take, length-drop, eqb-true, le-ltb, flat_map}
+use Rattle.std.proofs.Common.{◌≡◌, ℕ, ◌+◌, ◌-◌, ◌≤◌, Bool, true, false, cond, not, eqb, ltb, leb, List, [], ◌∷◌, ◌++◌, length, get_or, drop, Some, None, refl, sym, ap, subst, ◌∙◌, arith, length-take, length-drop, eqb-true, le-ltb, flat_map}
 use Rattle.std.specs.Prelude.{◌&&◌, ◌||◌, ◌==◌, nat_lt, nat_le, bytes_eq, slice_range}
 use Rattle.std.specs.List.{list_all, AllByRecursion}
 use Rattle.std.proofs.lemmas.Bool.Decides.{nat_tests}
-use Rattle.apf_coding.specs.declared.instruction.Op.TheVariants.{Ldh, Ldw, Li, Jgt, Jne, Jlt, Ext}
+use Rattle.apf_coding.specs.declared.instruction.Op.TheVariants.{Ldh, Ldw, Jgt, Jne, Jlt, Ext}
 use Rattle.apf_coding.specs.declared.machine.Verdict.TheVariants.{Drop}
 use Rattle.apf_coding.specs.Meaning.{State}
 use Rattle.apf_asm.specs.declared.item.Item.{Item}
@@ -28,7 +28,7 @@ use Rattle.rule_items.specs.Saying.{Tells}
 use Rattle.rule_items.specs.Rulings.{said_of}
 use Rattle.rule_items.proofs.Rules.{Yields, done, restated, counts, places, reads_half, reads_word, recalls_0, answers, leaves_if, leaves_unless, labelled, told}
 use Rattle.rule_items.proofs.Rulings.{rulings}
-use Rattle.apf_generate.specs.RaListing.{section_bytes, section_items, load_of, lifetime_items, dropping_items, compare_items, ra_items}
+use Rattle.apf_generate.specs.RaListing.{section_bytes, section_items, lifetime_items, dropping_items, compare_items, ra_items}
 
 -- ---- the ruling as the items come to it
 

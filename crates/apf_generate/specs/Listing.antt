@@ -29,9 +29,9 @@ ip6_test_items over = load Ldh 12 ∷ jump_if Jne 0x86dd (targets.Label over) �
 abbrev pub ip6_last_items : List Item
 ip6_last_items = counting PassedIpv6Icmp ∷ jump (to_end Pass) ∷ []
 
--- the question on IPv6, with the items of its rules
-abbrev pub ip6_items : ℕ → List Item → List Item
-ip6_items over rules = ip6_test_items over ++ ((rules ++ ip6_last_items) ++ (items.Label over ∷ []))
+-- the question on IPv6, with the items of its rules and of the chosen records
+abbrev pub ip6_items : ℕ → List Item → List Item → List Item
+ip6_items over rules records = ip6_test_items over ++ ((rules ++ (records ++ ip6_last_items)) ++ (items.Label over ∷ []))
 
 -- all other frames
 abbrev pub last_items : List Item

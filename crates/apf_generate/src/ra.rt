@@ -1,12 +1,13 @@
 //! The rule for a chosen record of a router advertisement.
 
-ghost use Rattle.std.specs.Prelude.{◌≡◌, ◌≤◌, ◌<◌, ◌^◌, ℕ, length, flat_map, slice_index, All, IfOk, OnOk, OnErr};
+ghost use Rattle.std.specs.Prelude.{◌≡◌, ◌≤◌, ◌<◌, ◌+◌, ◌*◌, ◌^◌, ℕ, length, flat_map, slice_index, All, IfOk, OnOk, OnErr};
 ghost use Rattle.ra_records.specs.Masks.{IsWithin};
 ghost use Rattle.ra_records.specs.Advert.{IsSound};
 ghost use Rattle.size_fit.specs.Sizes.{weight};
 ghost use Rattle.policy_state.specs.Records.{advertised_again};
 ghost use Rattle.rule_items.specs.Fragment.{Emits};
 ghost use Rattle.rule_items.specs.Rulings.{said_of};
+ghost use Rattle.apf_generate.specs.Program.{AddsRecords};
 ghost use Rattle.apf_generate.specs.RaListing.{section_items, lifetime_items, compare_items, ra_items};
 
 use apf_asm::{Item, Target};
@@ -116,5 +117,22 @@ pub fn emit_ra(
 {
     out.append(ra_items(alloc, *next, chosen)?)?;
     *next += 1;
+    Ok(())
+}
+
+/// Appends the questions on frames that match one of the chosen records, in their order.
+pub(crate) fn add_records(
+    alloc: Global,
+    chosen: &[Chosen],
+    next: &mut u32,
+    out: &mut List<Item>,
+) -> Result<(), OutOfMemory>
+    requires low { 2 ≤ next.old }
+    requires high { next.old + 64 * length chosen.now ≤ 1000000 }
+    ensures { OnOk result (AddsRecords chosen.now next.old next.new out.old out.new) }
+{
+    for one in chosen {
+        emit_ra(alloc, one, next, out)?;
+    }
     Ok(())
 }

@@ -1,5 +1,5 @@
 -- A slice of bytes has bytes as its items.
-use Rattle.std.proofs.Common.{◌<◌, ℕ, arith}
+use Rattle.std.proofs.Common.{arith}
 use Rattle.apf_generate.proofs.ra.all_sections.Goals as goal
 
 pub returns-clause-bytes : goal.returns-clause-bytes
