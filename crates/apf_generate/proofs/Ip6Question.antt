@@ -1,5 +1,5 @@
 -- The test of the ethertype, the rules for IPv6 and what stands behind them answer the question on IPv6.
-use Rattle.std.proofs.Common.{◌≡◌, ℕ, ◌+◌, ◌<◌, ◌≤◌, Bool, true, false, cond, not, eqb, List, [], ◌∷◌, ◌++◌, length, Option, Some, None, refl, sym, ap, subst, ◌∙◌, append_assoc, arith, lit<, lit≤}
+use Rattle.std.proofs.Common.{◌≡◌, ℕ, ◌+◌, ◌≤◌, cond, not, eqb, List, [], ◌∷◌, ◌++◌, length, Option, Some, None, refl, sym, ap, subst, ◌∙◌, append_assoc, arith, lit<, lit≤}
 use Rattle.std.proofs.lemmas.List.{length-append}
 use Rattle.std.proofs.lemmas.List.Sums.{sum_by-cons}
 use Rattle.apf_coding.specs.declared.instruction.Op.TheVariants.{Ldh, Jne}
@@ -7,7 +7,7 @@ use Rattle.apf_coding.specs.declared.machine.Verdict.TheVariants.{Pass}
 use Rattle.apf_asm.specs.declared.item.Item.{Item}
 use Rattle.apf_asm.specs.declared.item.Item.TheVariants as items
 use Rattle.apf_asm.specs.declared.item.Target.TheVariants as targets
-use Rattle.apf_asm.specs.Layout.{wide_size, wide_length}
+use Rattle.apf_asm.specs.Layout.{wide_size}
 use Rattle.data_counters.specs.declared.counter.Counter.TheVariants.{PassedIpv6Icmp}
 use Rattle.policy_state.specs.declared.basis.Basis.{Basis}
 use Rattle.policy_state.specs.declared.ruling.Ruling.{Ruling}

@@ -1,5 +1,5 @@
 -- The emitted fragments and the items of the other questions answer all questions.
-use Rattle.std.proofs.Common.{◌≡◌, ℕ, ◌+◌, ◌*◌, ◌≤◌, List, [], ◌∷◌, ◌++◌, length, sym, ap, subst, ◌∙◌, append_assoc, arith}
+use Rattle.std.proofs.Common.{◌≡◌, ℕ, ◌+◌, ◌*◌, ◌≤◌, List, [], ◌++◌, length, sym, ap, subst, ◌∙◌, append_assoc, arith}
 use Rattle.apf_asm.specs.declared.item.Item.{Item}
 use Rattle.policy_state.specs.declared.basis.Basis.{Basis}
 use Rattle.policy_state.specs.declared.ruling.Ruling.{Ruling}
@@ -8,7 +8,6 @@ use Rattle.policy_state.specs.Asking.{otherwise}
 use Rattle.policy_state.specs.Policy.{link, arp, ip4, ip6, others}
 use Rattle.policy_state.proofs.AskingLaws.{otherwise-silent}
 use Rattle.rule_items.specs.Fragment.{IsPart, Emits}
-use Rattle.rule_items.specs.Saying.{Said}
 use Rattle.rule_items.proofs.Language.{said_first}
 use Rattle.rule_items.proofs.Parts.{part-then, part-same}
 use Rattle.rule_items.specs.Rulings.{said_of}

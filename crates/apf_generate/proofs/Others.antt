@@ -1,5 +1,5 @@
 -- The items for IPv4 and for all other frames say what their questions answer.
-use Rattle.std.proofs.Common.{◌≡◌, ℕ, Bool, true, false, cond, not, eqb, List, [], ◌∷◌, ◌++◌, Option, Some, None, refl, sym, ap, ◌∙◌, arith, lit<, lit≤}
+use Rattle.std.proofs.Common.{◌≡◌, ℕ, Bool, true, false, cond, not, eqb, List, [], Option, Some, None, refl, arith, lit<, lit≤}
 use Rattle.std.specs.Prelude.{bytes_eq}
 use Rattle.apf_coding.specs.declared.instruction.Op.TheVariants.{Ldh, Li, Jeq}
 use Rattle.apf_coding.specs.declared.machine.Verdict.TheVariants.{Pass, Drop}
