@@ -1,3 +1,5 @@
+mod ip6;
+
 use crate::generate;
 use apf_base::List;
 use apf_coding::Verdict;

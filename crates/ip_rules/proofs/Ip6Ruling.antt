@@ -12,10 +12,10 @@ use Rattle.data_counters.specs.declared.counter.Counter.TheVariants.{PassedIpv6N
 use Rattle.frame_views.specs.Fields.{field, part}
 use Rattle.policy_state.specs.declared.basis.Basis.{Basis}
 use Rattle.policy_state.specs.declared.ruling.Ruling.{Ruling}
-use Rattle.policy_state.specs.declared.ruling.Ruling.TheVariants.{Missing, Says, Silent}
+use Rattle.policy_state.specs.declared.ruling.Ruling.TheVariants.{Says, Silent}
 use Rattle.policy_state.specs.Asking.{reading, when, otherwise}
 use Rattle.policy_state.specs.Ip6.{next_header, icmp_type, by_destination, all_nodes, ip6_header_lines}
-use Rattle.policy_state.proofs.AskingLaws.{otherwise-silent, otherwise-when, when-not, otherwise-reading, reading-when}
+use Rattle.policy_state.proofs.AskingLaws.{otherwise-silent, otherwise-when, reading-when}
 use Rattle.policy_state.proofs.FieldsSeen.{number_seen, bytes_seen}
 use Rattle.rule_items.specs.Building.{to_end, load, jump_if, jump}
 use Rattle.rule_items.specs.Saying.{Tells}

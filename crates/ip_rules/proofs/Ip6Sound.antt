@@ -1,8 +1,7 @@
 -- The forms of the IPv6 items.
-use Rattle.std.proofs.Common.{◌≡◌, ℕ, ◌+◌, ◌<◌, ◌≤◌, Bool, true, false, List, [], ◌∷◌, ◌++◌, length, refl, arith, lit<, lit≤}
+use Rattle.std.proofs.Common.{ℕ, ◌+◌, ◌≤◌, Bool, true, false, [], ◌∷◌, ◌++◌, length, refl, arith, lit<, lit≤}
 use Rattle.apf_coding.specs.declared.instruction.Op.TheVariants.{Ldb, Li, Jeq, Jne}
 use Rattle.apf_coding.specs.declared.machine.Verdict.TheVariants.{Pass, Drop}
-use Rattle.apf_asm.specs.declared.item.Item.{Item}
 use Rattle.apf_asm.specs.declared.item.Item.TheVariants as items
 use Rattle.apf_asm.specs.declared.item.Target.TheVariants as targets
 use Rattle.apf_asm.specs.Layout.{wide_length}
@@ -14,7 +13,7 @@ use Rattle.rule_items.specs.Fragment.{AreFresh, IsFragment, labels}
 use Rattle.rule_items.proofs.Forms.{IsSound, stands-here, bytes_fit, sound-nil, sound-append, sound-byte, sound-if_end, sound-if_label, sound-jump_end, sound-unless_label, sound-label}
 use Rattle.rule_items.proofs.Parts.{fragment-of}
 use Rattle.rule_items.proofs.Rulings.{sound-counting}
-use Rattle.ip_rules.specs.Ip6Listing.{destination_items, advertisement_items, message_items, unfiltered_items, filtered_items, dozing_items, items_by, ip6_items}
+use Rattle.ip_rules.specs.Ip6Listing.{destination_items, advertisement_items, message_items, filtered_items, dozing_items, items_by, ip6_items}
 
 sound-destination : IsSound destination_items
 sound-destination =
