@@ -1,4 +1,5 @@
 mod ip6;
+mod ra;
 
 use crate::generate;
 use apf_base::List;

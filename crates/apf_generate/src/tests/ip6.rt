@@ -110,6 +110,7 @@ fn basis_at(alloc: Global, setting: Setting) -> Basis {
             deny: List::new(alloc),
         },
         state,
+        chosen: List::new(alloc),
     }
 }
 
