@@ -9,6 +9,7 @@ mod basis;
 mod config;
 mod copies;
 mod deciding;
+mod ip4;
 mod laws;
 mod link;
 mod ruling;
