@@ -1,0 +1,3 @@
+pub mod HeaderSeen
+pub mod KeepaliveForm
+pub mod KeepaliveRuling

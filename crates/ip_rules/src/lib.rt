@@ -4,3 +4,7 @@
 //! label 1 to drop, with minus four times the counter's number in R1; it stops with the fault Frame where a field that is
 //! read is missing; else it goes on with what stands behind it.
 #![tactic(auto)]
+
+mod keepalives;
+
+pub use keepalives::emit_keepalives;

@@ -1,7 +1,6 @@
 //! The questions on IPv4.
 
-ghost use Rattle.std.specs.Prelude.{◌≡◌, map, is_some};
-ghost use Rattle.std.specs.List.{list_any};
+ghost use Rattle.std.specs.Prelude.{◌≡◌, map};
 ghost use Rattle.policy_state.specs.Asking.{first_of};
 ghost use Rattle.policy_state.specs.Ip4.{dhcp, ip4_multicast, ip4_broadcast, net_broadcast, ip4_net_broadcast, keepalive_answer, slot_answer, keepalive_answers, ip4_to_this_host, ip4_lines};
 ghost use Rattle.policy_state.specs.Policy.{ip4};
@@ -157,18 +156,11 @@ fn slots_answer(frame: &[u8], slots: &[Option<Keepalive>]) -> Ruling
     Ruling::Silent
 }
 
-/// Whether a slot holds a keepalive.
-fn holds_keepalive(slots: &[Option<Keepalive>]) -> bool
-    ensures { result ≡ list_any is_some slots.now }
-{
-    slots.iter().any(|slot| slot.is_some())
-}
-
 /// Answers to keepalives.
 fn keepalive_answers(basis: &Basis, frame: &[u8]) -> Ruling
     ensures { result ≡ keepalive_answers basis.now frame.now }
 {
-    if !holds_keepalive(basis.state.keepalives.as_slice()) {
+    if !basis.state.holds_keepalive() {
         return Ruling::Silent;
     }
     match Ip4::new(frame).protocol() {

@@ -74,6 +74,8 @@ pub struct FilterState {
 }
 
 impl FilterState {
+    ghost use Rattle.std.specs.Prelude.{is_some};
+    ghost use Rattle.std.specs.List.{list_any};
     ghost use Rattle.policy_state.specs.States.{start};
 
     /// The state at the start: all off and empty.
@@ -86,5 +88,12 @@ impl FilterState {
             address: None,
             keepalives: [None; 8],
         }
+    }
+
+    /// Whether a slot holds a keepalive.
+    pub fn holds_keepalive(&self) -> bool
+        ensures { result ≡ list_any is_some self.now.keepalives }
+    {
+        self.keepalives.iter().any(|slot| slot.is_some())
     }
 }

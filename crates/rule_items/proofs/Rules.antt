@@ -43,7 +43,7 @@ pub label_of-below : (verdict : Verdict) → label_of verdict < 2
 label_of-below Pass = omega arith
 label_of-below Drop = omega arith
 
-above_two : (l k : ℕ) (b : Bool) → l < 2 → 2 ≤ k → b ≡ false → (eqb k l) || b ≡ false
+pub above_two : (l k : ℕ) (b : Bool) → l < 2 → 2 ≤ k → b ≡ false → (eqb k l) || b ≡ false
 above_two l k b lt le e = go (eqb k l) refl
   where
     go : (t : Bool) → eqb k l ≡ t → t || b ≡ false
