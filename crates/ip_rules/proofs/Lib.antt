@@ -1,3 +1,6 @@
 pub mod HeaderSeen
+pub mod Ip4Ruling
 pub mod KeepaliveForm
 pub mod KeepaliveRuling
+pub mod KeepalivesEmitted
+pub mod Over

@@ -38,14 +38,9 @@ slots_items next [] = []
 slots_items next (None ∷ slots) = slots_items next slots
 slots_items next (Some sent ∷ slots) = answer_items next sent ++ slots_items (next + 1) slots
 
--- other packets than TCP go over all of them
+-- other packets than TCP go over all of them. Where there is no keepalive there are no items at all
 abbrev pub segment_items : ℕ → List Item → List Item
 segment_items over answers = load Ldb 23 ∷ jump_if Jne 6 (targets.Label over) ∷ (answers ++ (items.Label over ∷ []))
-
--- the whole, which is nothing where there is no keepalive; the last label is behind those of the keepalives
-abbrev pub keepalive_items : ℕ → List (Option Keepalive) → List Item
-keepalive_items next slots =
-    if list_any is_some slots then segment_items (next + count_by is_some slots) (slots_items next slots) else []
 
 -- ---- what is asked before
 
@@ -90,11 +85,11 @@ last_items false = counting PassedIpv4 ∷ jump (to_end Pass) ∷ []
 
 -- ---- the whole, round the items for keepalives
 
--- other frames go over the packet
+-- other frames go over the packet; the first label is DHCP's
 abbrev pub ip4_items : Basis → ℕ → List Item → List Item
-ip4_items basis over keepalives =
-    load Ldh 12 ∷ jump_if Jne 0x800 (targets.Label over)
-    ∷ ((filtered_items basis.state.multicast (over + 1) basis.config.mac basis.state.address ++ (keepalives ++ last_items basis.state.multicast)) ++ (items.Label over ∷ []))
+ip4_items basis label keepalives =
+    load Ldh 12 ∷ jump_if Jne 0x800 (targets.Label (label + 1))
+    ∷ ((filtered_items basis.state.multicast label basis.config.mac basis.state.address ++ (keepalives ++ last_items basis.state.multicast)) ++ (items.Label (label + 1) ∷ []))
 
 -- ---- what is known of the basis
 
@@ -103,7 +98,7 @@ pub record IsMac (mac : List ℕ) : Type 0 where
   pub six : length mac ≡ 6
   pub bytes : (k : ℕ) → slice_index mac k < 256
 
--- the net's broadcast address is a number of four bytes
+-- the broadcast address of a net that has one is a number of four bytes
 abbrev pub IsInRange : Option Address → Type 0
 IsInRange None = Unit {0}
-IsInRange (Some address) = net_broadcast_of address < 2 ^ 32
+IsInRange (Some address) = address.prefix < 31 → net_broadcast_of address < 2 ^ 32

@@ -4,7 +4,7 @@ ghost use Rattle.std.specs.Prelude.{◌≡◌, ◌+◌, ◌*◌, ◌≤◌, IfOk
 ghost use Rattle.policy_state.specs.Ip4.{keepalive_answers};
 ghost use Rattle.rule_items.specs.Fragment.{Emits};
 ghost use Rattle.rule_items.specs.Rulings.{said_of};
-ghost use Rattle.ip_rules.specs.Ip4Listing.{header_into, answer_items, slots_items, segment_items, keepalive_items};
+ghost use Rattle.ip_rules.specs.Ip4Listing.{header_into, answer_items, slots_items, segment_items};
 
 use apf_asm::{Item, Target};
 use apf_base::{List, OutOfMemory};

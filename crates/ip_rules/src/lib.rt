@@ -5,6 +5,8 @@
 //! read is missing; else it goes on with what stands behind it.
 #![tactic(auto)]
 
+mod ip4;
 mod keepalives;
 
+pub use ip4::emit_ip4;
 pub use keepalives::emit_keepalives;
