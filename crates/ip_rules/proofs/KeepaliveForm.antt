@@ -1,10 +1,8 @@
 -- The forms of the items for keepalives.
-use Rattle.std.proofs.Common.{◌≡◌, ℕ, zero, suc, ◌+◌, ◌*◌, ◌%◌, ◌<◌, ◌≤◌, List, [], ◌∷◌, ◌++◌, length, Option, Some, None, refl, ap, arith, lit<, lit≤, inl}
+use Rattle.std.proofs.Common.{◌≡◌, ℕ, zero, suc, ◌+◌, ◌%◌, ◌<◌, ◌≤◌, List, [], ◌∷◌, length, refl, ap, arith, lit<, lit≤, inl}
 use Rattle.std.specs.Prelude.{slice_index}
-use Rattle.apf_coding.specs.declared.instruction.Op.TheVariants.{Ldb, Ldh, Ldbx, Add, Div, Ext, Li, Jne}
+use Rattle.apf_coding.specs.declared.instruction.Op.TheVariants.{Ldh, Ldbx, Add, Div, Ext, Li, Jne}
 use Rattle.apf_coding.specs.declared.machine.Verdict.TheVariants.{Drop}
-use Rattle.apf_asm.specs.declared.item.Item.{Item}
-use Rattle.apf_asm.specs.declared.item.Item.TheVariants as items
 use Rattle.apf_asm.specs.declared.item.Target.TheVariants as targets
 use Rattle.apf_asm.specs.Layout.{wide_length}
 use Rattle.data_counters.specs.declared.counter.Counter.TheVariants.{DroppedIpv4KeepaliveAck}

@@ -1,7 +1,7 @@
 -- The items for keepalives say what their question answers.
-use Rattle.std.proofs.Common.{◌≡◌, ℕ, ◌+◌, ◌/◌, ◌<◌, ◌≤◌, Bool, true, false, cond, not, eqb, List, [], ◌∷◌, ◌++◌, length, map, get_or, Option, Some, None, refl, sym, ap, ◌∙◌, arith, lit<, lit≤}
+use Rattle.std.proofs.Common.{◌≡◌, ℕ, ◌+◌, ◌/◌, ◌<◌, ◌≤◌, false, cond, not, eqb, List, [], ◌∷◌, ◌++◌, get_or, Option, Some, None, refl, ap, ◌∙◌, arith, lit<, lit≤}
 use Rattle.std.specs.Prelude.{bytes_eq, slice_index}
-use Rattle.apf_coding.specs.declared.instruction.Op.TheVariants.{Ldb, Ldh, Ldbx, Add, Div, Jne}
+use Rattle.apf_coding.specs.declared.instruction.Op.TheVariants.{Ldh, Ldbx, Add, Div, Jne}
 use Rattle.apf_coding.specs.declared.machine.Verdict.TheVariants.{Drop}
 use Rattle.apf_coding.specs.Words.{word}
 use Rattle.apf_coding.specs.Meaning.{State}
@@ -19,9 +19,9 @@ use Rattle.policy_state.specs.Asking.{reading, when}
 use Rattle.policy_state.specs.Ip4.{ends_of, opening_of, keepalive_answer}
 use Rattle.policy_state.proofs.AskingLaws.{reading-when}
 use Rattle.policy_state.proofs.FieldsSeen.{number_seen, bytes_seen}
-use Rattle.rule_items.specs.Building.{fixed, counting, jump, jump_if_r1, jump_unless, load, place, to_end}
+use Rattle.rule_items.specs.Building.{fixed, counting, jump, jump_if_r1, jump_unless, load, to_end}
 use Rattle.rule_items.specs.Rulings.{said_of}
-use Rattle.rule_items.specs.Saying.{IsReady, Tells}
+use Rattle.rule_items.specs.Saying.{Tells}
 use Rattle.rule_items.proofs.Rules.{Yields, above_two, done, restated, counts, places, adds, adds_r1, divides, recalls_0, recalls_1, reads_half_1, reads_byte_known_at, answers, labelled, leaves_if_r1, leaves_unless, told}
 use Rattle.rule_items.proofs.Rulings.{rulings}
 use Rattle.ip_rules.specs.Ip4Listing.{header_into, answer_items}

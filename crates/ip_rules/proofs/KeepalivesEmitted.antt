@@ -1,5 +1,5 @@
 -- The items for all keepalives are a fragment that says what their question answers.
-use Rattle.std.proofs.Common.{◌≡◌, ℕ, ◌+◌, ◌*◌, ◌≤◌, Bool, true, false, cond, eqb, List, [], ◌∷◌, ◌++◌, length, map, Option, Some, None, refl, sym, ap, subst, append-nil, arith, lit<, lit≤}
+use Rattle.std.proofs.Common.{◌≡◌, ℕ, ◌+◌, ◌*◌, ◌≤◌, Bool, true, false, cond, eqb, List, [], ◌∷◌, ◌++◌, map, Option, Some, None, refl, sym, ap, subst, append-nil, arith, lit<}
 use Rattle.std.specs.Prelude.{count_by, is_some}
 use Rattle.std.specs.List.{list_any}
 use Rattle.std.proofs.lemmas.List.Sums.{sum_by-cons}
@@ -9,11 +9,11 @@ use Rattle.policy_state.specs.declared.basis.Basis.{Basis}
 use Rattle.policy_state.specs.declared.ruling.Ruling.{Ruling}
 use Rattle.policy_state.specs.declared.ruling.Ruling.TheVariants.{Silent}
 use Rattle.policy_state.specs.declared.state.Keepalive.{Keepalive}
-use Rattle.policy_state.specs.Asking.{reading, when, otherwise, first_of}
+use Rattle.policy_state.specs.Asking.{reading, when, first_of}
 use Rattle.policy_state.specs.Ip4.{protocol, keepalive_answer, slot_answer, keepalive_answers}
 use Rattle.policy_state.proofs.AskingLaws.{reading-over}
 use Rattle.policy_state.proofs.FieldsSeen.{number_seen}
-use Rattle.rule_items.specs.Fragment.{Emits, IsFragment, IsPart, labels}
+use Rattle.rule_items.specs.Fragment.{Emits, IsPart, labels}
 use Rattle.rule_items.specs.Rulings.{said_of}
 use Rattle.rule_items.specs.Saying.{Said, Tells}
 use Rattle.rule_items.proofs.Forms.{sound-nil}

@@ -1,4 +1,6 @@
 pub mod HeaderSeen
+pub mod Ip4Emitted
+pub mod Ip4Form
 pub mod Ip4Ruling
 pub mod KeepaliveForm
 pub mod KeepaliveRuling

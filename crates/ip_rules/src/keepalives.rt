@@ -71,11 +71,7 @@ fn slots_items(
 }
 
 /// Other packets than TCP go over the answers.
-fn segment_items(
-    alloc: Global,
-    over: u32,
-    answers: List<Item>,
-) -> Result<List<Item>, OutOfMemory>
+fn segment_items(alloc: Global, over: u32, answers: List<Item>) -> Result<List<Item>, OutOfMemory>
     ensures { IfOk result (λ xs. xs ≡ segment_items over answers) }
 {
     let mut items = List::of(
@@ -103,6 +99,7 @@ pub fn emit_keepalives(
     requires low { 2 ≤ next.old }
     requires high { next.old ≤ 1000000 }
     ensures ok { OnOk result (Emits (λ age frame. said_of (keepalive_answers basis.now frame)) (80 * count_by is_some basis.now.state.keepalives) next.old next.new out.old out.new) }
+    ensures few { OnOk result (next.new ≤ next.old + 9) }
     ensures err { OnErr result (out.new ≡ out.old) }
     ensures next { OnErr result (next.new ≡ next.old) }
 {
