@@ -1,6 +1,6 @@
 -- What is assembled from the items of a whole program.
-use Rattle.std.proofs.Common.{◌≡◌, ℕ, ◌+◌, ◌*◌, ◌≤◌, List, length, Some, refl, sym, ap, subst, ◌∙◌, arith}
-use Rattle.std.specs.Prelude.{All}
+use Rattle.std.proofs.Common.{◌≡◌, ℕ, ◌+◌, ◌≤◌, List, length, Some, refl, sym, ap, subst, ◌∙◌, arith}
+use Rattle.std.specs.Prelude.{All, count_by, is_some}
 use Rattle.apf_asm.specs.declared.item.AsmError.{AsmError}
 use Rattle.apf_asm.specs.declared.item.Item.{Item}
 use Rattle.apf_asm.specs.Items.{IsItemForm}
@@ -9,28 +9,28 @@ use Rattle.apf_asm.specs.Refusals.{refusal, IsOverlong}
 use Rattle.policy_state.specs.declared.basis.Basis.{Basis}
 use Rattle.apf_generate.specs.Listing.{between_ends}
 use Rattle.apf_generate.specs.Means.{Means}
-use Rattle.apf_generate.specs.Program.{IsProgram}
+use Rattle.apf_generate.specs.Program.{most_asked, IsProgram}
 use Rattle.apf_generate.specs.Sizes.{base_of}
 use Rattle.apf_generate.proofs.AnyProgram.{forms, few_items, length-bytes, means_of, not_refused}
 
-small : (n : ℕ) → n ≤ 32 → 182 + 9 * n ≤ 65000
-small n le = omega arith
+module _ (basis : Basis) (xs : List Item) (few : length basis.config.deny ≤ 32) (eight : count_by is_some basis.state.keepalives ≤ 8) (p : IsProgram basis xs) where
+  small : most_asked basis ≤ 65000
+  small = omega arith
 
-module _ (basis : Basis) (xs : List Item) (few : length basis.config.deny ≤ 32) (p : IsProgram basis xs) where
   pub items_formed : All IsItemForm xs
-  items_formed = subst (λ (ys : List Item). All IsItemForm ys) (sym p.whole) (forms basis p.holds.to _ p.questions p.holds.part (small _ few))
+  items_formed = subst (λ (ys : List Item). All IsItemForm ys) (sym p.whole) (forms basis p.holds.to _ p.questions p.holds.part small)
 
   pub items_few : length xs ≤ 1048576
-  items_few = subst (λ (ys : List Item). length ys ≤ 1048576) (sym p.whole) (few_items basis p.holds.to _ p.questions p.holds.part (small _ few) p.holds.few)
+  items_few = subst (λ (ys : List Item). length ys ≤ 1048576) (sym p.whole) (few_items basis p.holds.to _ p.questions p.holds.part small p.holds.few)
 
   code_is : (code : List ℕ) → code ≡ (layout xs).bytes → code ≡ (layout (between_ends p.questions)).bytes
   code_is code e = e ∙ ap (λ (ys : List Item). (layout ys).bytes) p.whole
 
   pub code_means : (code : List ℕ) → code ≡ (layout xs).bytes → Means code basis
-  code_means code e = subst (λ (c : List ℕ). Means c basis) (sym (code_is code e)) (means_of basis p.holds.to _ p.questions p.holds.part (small _ few))
+  code_means code e = subst (λ (c : List ℕ). Means c basis) (sym (code_is code e)) (means_of basis p.holds.to _ p.questions p.holds.part small)
 
-  length-code : (code : List ℕ) → code ≡ (layout xs).bytes → length code ≤ 210 + 9 * length basis.config.deny
-  length-code code e = omega (arith, ap length (code_is code e), length-bytes basis p.holds.to _ p.questions p.holds.part (small _ few))
+  length-code : (code : List ℕ) → code ≡ (layout xs).bytes → length code ≤ most_asked basis + 28
+  length-code code e = omega (arith, ap length (code_is code e), length-bytes basis p.holds.to _ p.questions p.holds.part small)
 
   pub code_short : (code : List ℕ) → code ≡ (layout xs).bytes → length code ≤ base_of basis
   code_short code e = omega (arith, length-code code e)
@@ -38,9 +38,9 @@ module _ (basis : Basis) (xs : List Item) (few : length basis.config.deny ≤ 32
   -- no label is refused, and the code isn't too long
   pub none_refused : (error : AsmError) → refusal xs ≡ Some error → ⊥
   none_refused error e =
-      let ok = not_refused basis p.holds.to _ p.questions p.holds.part (small _ few) in
+      let ok = not_refused basis p.holds.to _ p.questions p.holds.part small in
       let same : refusal xs ≡ refusal (between_ends p.questions) = ap refusal p.whole in
       cc
 
   pub not_overlong : (bytes : ℕ) → IsOverlong xs bytes → ⊥
-  not_overlong bytes long = omega (arith, long.long, long.length_is, length-code (layout xs).bytes refl)
+  not_overlong bytes long = omega (arith, small, long.long, long.length_is, length-code (layout xs).bytes refl)

@@ -5,7 +5,7 @@ use Rattle.apf_coding.specs.declared.machine.Verdict.TheVariants.{Pass, Drop}
 use Rattle.apf_asm.specs.declared.item.Item.{Item}
 use Rattle.apf_asm.specs.declared.item.Item.TheVariants as items
 use Rattle.apf_asm.specs.declared.item.Target.TheVariants as targets
-use Rattle.data_counters.specs.declared.counter.Counter.TheVariants.{PassedIpv4, PassedIpv6Icmp, PassedNonIpUnicast, DroppedEthBroadcast}
+use Rattle.data_counters.specs.declared.counter.Counter.TheVariants.{PassedIpv6Icmp, PassedNonIpUnicast, DroppedEthBroadcast}
 use Rattle.policy_state.specs.Ethernet.{broadcast}
 use Rattle.rule_items.specs.Building.{to_end, fixed, load, place, counting, jump_if, jump, jump_unless}
 
@@ -17,12 +17,9 @@ raising_items distance = fixed Lddw 0 1 distance ∷ fixed Add 0 1 1 ∷ fixed S
 abbrev pub opening_items : List Item
 opening_items = raising_items 252
 
--- IPv4 and IPv6 frames
+-- IPv6 frames
 abbrev pub ip_items : List Item
-ip_items =
-    load Ldh 12 ∷ counting PassedIpv4 ∷ jump_if Jeq 0x800 (to_end Pass)
-    ∷ counting PassedIpv6Icmp ∷ jump_if Jeq 0x86dd (to_end Pass)
-    ∷ []
+ip_items = load Ldh 12 ∷ counting PassedIpv6Icmp ∷ jump_if Jeq 0x86dd (to_end Pass) ∷ []
 
 -- all other frames
 abbrev pub last_items : List Item

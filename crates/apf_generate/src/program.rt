@@ -11,7 +11,8 @@ use apf_base::{List, OutOfMemory};
 use apf_coding::{Op, Verdict};
 use arp_rules::{emit_arp, emit_link};
 use data_counters::Counter;
-use policy_state::Basis;
+use ip_rules::emit_ip4;
+use policy_state::{Basis, keepalives_are_few};
 use rule_items::{counting, fixed, jump, jump_if, jump_unless, load, place, to_end};
 use std::alloc::Global;
 
@@ -32,7 +33,7 @@ fn raising_items(alloc: Global, distance: u8) -> Result<List<Item>, OutOfMemory>
     )
 }
 
-/// IPv4 and IPv6 frames.
+/// IPv6 frames.
 fn ip_items(alloc: Global) -> Result<List<Item>, OutOfMemory>
     ensures { IfOk result (λ xs. xs ≡ ip_items) }
 {
@@ -40,8 +41,6 @@ fn ip_items(alloc: Global) -> Result<List<Item>, OutOfMemory>
         alloc,
         [
             load(alloc, Op::Ldh, 12),
-            counting(alloc, Counter::PassedIpv4),
-            jump_if(alloc, Op::Jeq, 0x800, to_end(Verdict::Pass)),
             counting(alloc, Counter::PassedIpv6Icmp),
             jump_if(alloc, Op::Jeq, 0x86dd, to_end(Verdict::Pass)),
         ],
@@ -87,6 +86,7 @@ fn question_items(alloc: Global, basis: &Basis) -> Result<List<Item>, OutOfMemor
     let mut items = List::new(alloc);
     emit_link(alloc, basis, &mut next, &mut items)?;
     emit_arp(alloc, basis, &mut next, &mut items)?;
+    emit_ip4(alloc, basis, &mut next, &mut items)?;
     items.append(ip_items(alloc)?)?;
     items.append(last_items(alloc)?)?;
     Ok(items)
@@ -110,6 +110,7 @@ fn assembled(alloc: Global, basis: &Basis, items: &[Item]) -> Result<List<u8>, O
     ensures means { IfOk result (λ code. Means code basis.now) }
     ensures short { IfOk result (λ code. length code ≤ base_of basis.now) }
 {
+    keepalives_are_few(&basis.state);
     match assemble(alloc, items) {
         Ok(code) => {
             let Code {

@@ -1,6 +1,6 @@
 //! Laws over the policy, each the contract of an empty function.
 
-ghost use Rattle.std.specs.Prelude.{◌≡◌, ◌≢◌, ◌<◌, ◌≤◌, ℕ, List, length};
+ghost use Rattle.std.specs.Prelude.{◌≡◌, ◌≢◌, ◌<◌, ◌≤◌, ℕ, List, length, count_by, is_some};
 ghost use Rattle.apf_coding.specs.declared.machine.Verdict.TheVariants.{Pass, Drop};
 ghost use Rattle.data_counters.specs.declared.counter.Counter.{Counter};
 ghost use Rattle.data_counters.specs.Counters.{number_of};
@@ -9,6 +9,8 @@ ghost use Rattle.policy_state.specs.declared.ruling.Ruling.TheVariants.{Silent};
 ghost use Rattle.policy_state.specs.Asking.{first_of};
 ghost use Rattle.policy_state.specs.Policy.{questions};
 ghost use Rattle.policy_state.specs.Whole.{Short, Says, policy};
+
+use crate::{FilterState, Keepalive};
 
 /// The questions end with one that always answers. So a frame of more than 14 bytes has a counter unless it lacks a field.
 pub fn questions_are_answered()
@@ -20,4 +22,15 @@ pub fn questions_are_answered()
 pub fn counters_tell_verdicts()
     ensures pass { (basis : Basis) (age : ℕ) (frame : List ℕ) (c : Counter) → policy basis age frame ≡ Says Pass c → (2 ≤ number_of c) × (number_of c ≤ 12) }
     ensures drop { (basis : Basis) (age : ℕ) (frame : List ℕ) (c : Counter) → policy basis age frame ≡ Says Drop c → (13 ≤ number_of c) × (number_of c ≤ 27) }
+{}
+
+/// There are at most eight keepalives. Beside the laws this speaks of a state in hand, since it is the array's length that says so.
+pub fn keepalives_are_few(state: &FilterState)
+    ensures { count_by is_some state.now.keepalives ≤ 8 }
+{
+    few_slots(&state.keepalives);
+}
+
+fn few_slots(_slots: &[Option<Keepalive>; 8])
+    ensures { count_by is_some _slots.now ≤ 8 }
 {}
