@@ -1,6 +1,6 @@
 -- Each answer has a counter of its verdict.
-use Rattle.std.proofs.Common.{◌≡◌, ◌≢◌, ℕ, ◌≤◌, Bool, true, false, not, eqb, List, length, Option, Some, None, refl, subst, lit≤}
-use Rattle.std.proofs.lemmas.Bool.{ltb-false}
+use Rattle.std.proofs.Common.{◌≡◌, ◌≢◌, ℕ, ◌≤◌, Bool, true, false, not, eqb, List, length, Option, Some, None, refl, sym, ap, subst, ◌∙◌, lit≤}
+use Rattle.std.proofs.lemmas.Bool.{eqb-true, ltb-false}
 use Rattle.std.specs.List.{list_any}
 use Rattle.std.specs.Prelude.{◌+◌, ◌/◌, bit_and, is_some, map, [], ◌∷◌, nat_lt, ◌&&◌, bytes_eq, if◌then◌else◌}
 use Rattle.apf_coding.specs.declared.machine.Verdict.{Verdict}
@@ -17,7 +17,7 @@ use Rattle.frame_views.specs.Fields.{field, part}
 use Rattle.policy_state.specs.Ethernet.{destination, ethertype, broadcast}
 use Rattle.frame_views.specs.Packets.{header_length}
 use Rattle.policy_state.specs.declared.state.Keepalive.{Keepalive}
-use Rattle.policy_state.specs.Ip4.{protocol, destination_address, fragment, dhcp, ip4_multicast, ip4_broadcast, net_broadcast_of, net_broadcast, ends_of, opening_of, slot_answer, keepalive_answers, ip4_to_this_host}
+use Rattle.policy_state.specs.Ip4.{protocol, destination_address, fragment, dhcp, ip4_multicast, ip4_broadcast, net_broadcast_of, net_broadcast, ends_of, opening_of, slot_answer, keepalive_answers, ip4_to_this_host, ip4_lines}
 use Rattle.policy_state.specs.Policy.{is_denied, frames_802_3, denied_types, link, for_other_addresses, unknown_operations, replies_of_no_host, unicast_replies, arp_opening, arp_operation, arp_sender, arp_target, gratuitous_arp, arp_for_other_hosts, arp, ip4, ip6, others, questions}
 use Rattle.policy_state.specs.Whole.{Short, Says, fate_of, policy}
 
@@ -187,12 +187,33 @@ told_whole false answer verdict counter told e = absurd cc
 pub policy-tells : (basis : Basis) (age : ℕ) (frame : List ℕ) (verdict : Verdict) (counter : Counter) → policy basis age frame ≡ Says verdict counter → Tells verdict counter
 policy-tells basis age frame verdict counter e = told_whole (nat_lt 14 (length frame)) (first_of (questions basis age frame)) verdict counter (told_questions basis age frame) e
 
--- ---- the last question
+-- ---- the last line on IPv4, and the last question
 
 later_answers : (first later : Ruling) → later ≢ rulings.Silent → otherwise first later ≢ rulings.Silent
 later_answers rulings.Missing later answers e = absurd cc
 later_answers rulings.Silent later answers e = answers e
 later_answers (rulings.Says v c) later answers e = absurd cc
+
+ip4_lines-answer : (basis : Basis) (frame : List ℕ) → ip4_lines basis frame ≢ rulings.Silent
+ip4_lines-answer basis frame =
+    later_answers (dhcp basis frame) _
+    (later_answers (ip4_multicast basis frame) _
+    (later_answers (ip4_broadcast basis frame) _
+    (later_answers (when basis.state.multicast (net_broadcast basis.state.address frame)) _
+    (later_answers (keepalive_answers basis frame) _
+    (later_answers (ip4_to_this_host basis frame) _ (λ e. absurd cc))))))
+
+pub ip4-answers : (basis : Basis) (frame : List ℕ) → ethertype frame ≡ Some 0x800 → ip4 basis frame ≢ rulings.Silent
+ip4-answers basis frame e silent =
+    ip4_lines-answer basis frame (sym (ap (λ (o : Option ℕ). reading o (λ t. when (eqb t 0x800) (ip4_lines basis frame))) e) ∙ silent)
+
+other_test : (t : Bool) (e : ℕ) (a : Ruling) → eqb e 0x800 ≡ t → e ≢ 0x800 → when t a ≡ rulings.Silent
+other_test true e a is other = absurd (other (eqb-true e 0x800 is))
+other_test false e a is other = refl
+
+pub ip4-silent : (basis : Basis) (frame : List ℕ) (e : ℕ) → ethertype frame ≡ Some e → e ≢ 0x800 → ip4 basis frame ≡ rulings.Silent
+ip4-silent basis frame e there other =
+    ap (λ (o : Option ℕ). reading o (λ t. when (eqb t 0x800) (ip4_lines basis frame))) there ∙ other_test (eqb e 0x800) e (ip4_lines basis frame) refl other
 
 others_answer : (mac : Option (List ℕ)) → otherwise (reading mac (λ m. if bytes_eq m broadcast then rulings.Says Drop DroppedEthBroadcast else rulings.Says Pass PassedNonIpUnicast)) rulings.Silent ≢ rulings.Silent
 others_answer None e = absurd cc
