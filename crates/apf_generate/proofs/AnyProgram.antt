@@ -1,6 +1,6 @@
 -- Any items that answer the policy's questions mean it, between the opening and the ends.
 use Rattle.std.proofs.Common.{◌≡◌, ℕ, zero, suc, ◌+◌, ◌<◌, ◌≤◌, Bool, true, false, cond, ltb, List, [], ◌∷◌, ◌++◌, length, None, refl, sym, subst, arith, lit<, inl, inr}
-use Rattle.std.specs.Prelude.{All}
+use Rattle.std.specs.Prelude.{All, slice_index}
 use Rattle.std.proofs.lemmas.Bool.Decides.{nat_tests}
 use Rattle.std.proofs.lemmas.List.{length-append}
 use Rattle.std.proofs.lemmas.List.Elements.{All-from_recursion, All-append}
@@ -107,23 +107,23 @@ module _ (basis : Basis) (to most : ℕ) (xs : List Item) (part : IsPart (asked 
   pub length-bytes : length bytes ≤ most + 28
   length-bytes = omega (arith, length-code-le (between_ends xs), wide-append (opening_items ++ xs) end_items, wide-append opening_items xs, part.form.short)
 
-  ends : (age : ℕ) (frame memory : List ℕ) → 14 < length frame → length memory ≡ 128
+  ends : (age : ℕ) (frame memory : List ℕ) → 14 < length frame → ((k : ℕ) → slice_index frame k < 256) → length memory ≡ 128
       → IsEnd (fate_of (first_of (questions basis age frame))) (raised TotalPackets memory) (end_of (flow (between_ends xs) (length bytes) frame (first_state bytes memory frame age)))
-  ends age frame memory long len =
+  ends age frame memory long bytes_in len =
       let n = length bytes in
       let le : length bytes ≤ 65535 = omega (arith, length-bytes) in
       let first = first_state bytes memory frame age in
       let raising = on-raising n frame first TotalPackets 252 0 0 (xs ++ end_items) le len refl in
-      let told = part.tells.tells n frame age _ end_items (ready_first n age frame bytes memory _ long refl len) in
+      let told = part.tells.tells n frame age _ end_items (ready_first n age frame bytes memory _ long bytes_in refl len) in
       subst (λ (end : End). IsEnd (fate_of (first_of (questions basis age frame))) (raised TotalPackets memory) end) (sym raising)
       (ended_as n frame _ (first_of (questions basis age frame)) _ (questions-answer basis age frame) le (length-raised TotalPackets memory len) told)
 
-  long_frame : (age : ℕ) (frame memory : List ℕ) → 14 < length frame → length memory ≡ 128 → HasFate (fate_of (first_of (questions basis age frame))) memory (run bytes memory frame age)
-  long_frame age frame memory long len =
+  long_frame : (age : ℕ) (frame memory : List ℕ) → 14 < length frame → ((k : ℕ) → slice_index frame k < 256) → length memory ≡ 128 → HasFate (fate_of (first_of (questions basis age frame))) memory (run bytes memory frame age)
+  long_frame age frame memory long bytes_in len =
       let le : length bytes ≤ 65535 = omega (arith, length-bytes) in
       subst (λ (r : Run). HasFate (fate_of (first_of (questions basis age frame))) memory r)
       (sym (runs_as (between_ends xs) forms labelled not_refused le memory frame age long))
-      (fate_from (layout (between_ends xs)).places memory (flow (between_ends xs) (length bytes) frame (first_state bytes memory frame age)) _ (ends age frame memory long len))
+      (fate_from (layout (between_ends xs)).places memory (flow (between_ends xs) (length bytes) frame (first_state bytes memory frame age)) _ (ends age frame memory long bytes_in len))
 
   short_run : (age : ℕ) (frame memory : List ℕ) (b : Bool) (r : Run) → b ≡ false → HasFate Short memory (cond b r (ended Pass 0 whys.Short (first_state bytes memory frame age)))
   short_run age frame memory true r e = absurd cc
@@ -133,9 +133,9 @@ module _ (basis : Basis) (to most : ℕ) (xs : List Item) (part : IsPart (asked 
   unfolding run
   short_frame age frame memory e = short_run age frame memory (ltb 14 (length frame)) _ e
 
-  any_frame : (age : ℕ) (frame memory : List ℕ) (b : Bool) → ltb 14 (length frame) ≡ b → length memory ≡ 128 → HasFate (cond b (fate_of (first_of (questions basis age frame))) Short) memory (run bytes memory frame age)
-  any_frame age frame memory true e len = long_frame age frame memory (grind (arith, nat_tests)) len
-  any_frame age frame memory false e len = short_frame age frame memory e
+  any_frame : (age : ℕ) (frame memory : List ℕ) (b : Bool) → ltb 14 (length frame) ≡ b → ((k : ℕ) → slice_index frame k < 256) → length memory ≡ 128 → HasFate (cond b (fate_of (first_of (questions basis age frame))) Short) memory (run bytes memory frame age)
+  any_frame age frame memory true e bytes_in len = long_frame age frame memory (grind (arith, nat_tests)) bytes_in len
+  any_frame age frame memory false e bytes_in len = short_frame age frame memory e
 
   pub means_of : Means bytes basis
-  means_of = record { means = λ frame age memory some old len. any_frame age frame memory (ltb 14 (length frame)) refl len }
+  means_of = record { means = λ frame age memory bytes_in some old len. any_frame age frame memory (ltb 14 (length frame)) refl bytes_in len }

@@ -72,10 +72,11 @@ ended_as n frame m (rulings.Says verdict c) end speaks le len h = h.1 ∙ at_end
 
 -- ---- behind the opening
 
-pub ready_first : (n age : ℕ) (frame program memory : List ℕ) (r0 : ℕ) → 14 < length frame → n ≡ length program → length memory ≡ 128
+pub ready_first : (n age : ℕ) (frame program memory : List ℕ) (r0 : ℕ) → 14 < length frame → ((k : ℕ) → slice_index frame k < 256) → n ≡ length program → length memory ≡ 128
     → IsReady n frame age (record { r0 = r0; r1 = 0; slots = (first_state program memory frame age).slots; memory = raised TotalPackets memory })
-ready_first n age frame program memory r0 long e len = record {
+ready_first n age frame program memory r0 long bytes e len = record {
   long = long;
+  bytes = bytes;
   slots = rw (e, len) refl;
   memory = length-raised TotalPackets memory len;
 }

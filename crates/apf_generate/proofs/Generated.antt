@@ -9,14 +9,14 @@ use Rattle.apf_asm.specs.Refusals.{refusal, IsOverlong}
 use Rattle.policy_state.specs.declared.basis.Basis.{Basis}
 use Rattle.apf_generate.specs.Listing.{between_ends}
 use Rattle.apf_generate.specs.Means.{Means}
-use Rattle.apf_generate.specs.Program.{IsProgram}
-use Rattle.apf_generate.specs.Sizes.{weights, need_of}
+use Rattle.apf_generate.specs.Program.{most_asked, IsProgram}
+use Rattle.apf_generate.specs.Sizes.{need_of}
 use Rattle.size_fit.specs.Sizes.{limit_of}
 use Rattle.apf_generate.proofs.AnyProgram.{forms, few_items, length-bytes, means_of, not_refused}
 
-module _ (basis : Basis) (xs : List Item) (few : length basis.config.deny ≤ 32) (most : basis.config.capacity ≤ 8192) (p : IsProgram basis xs) (fits : need_of basis ≤ limit_of basis.config) where
-  small : 484 + 9 * length basis.config.deny + weights basis.chosen ≤ 65000
-  small = omega (arith, few, most, fits)
+module _ (basis : Basis) (xs : List Item) (most : basis.config.capacity ≤ 8192) (p : IsProgram basis xs) (fits : need_of basis ≤ limit_of basis.config) where
+  small : most_asked basis ≤ 65000
+  small = omega (arith, most, fits)
 
   pub items_formed : All IsItemForm xs
   items_formed = subst (λ (ys : List Item). All IsItemForm ys) (sym p.whole) (forms basis p.holds.to _ p.questions p.holds.part small)
@@ -30,7 +30,7 @@ module _ (basis : Basis) (xs : List Item) (few : length basis.config.deny ≤ 32
   pub code_means : (code : List ℕ) → code ≡ (layout xs).bytes → Means code basis
   code_means code e = subst (λ (c : List ℕ). Means c basis) (sym (code_is code e)) (means_of basis p.holds.to _ p.questions p.holds.part small)
 
-  length-code : (code : List ℕ) → code ≡ (layout xs).bytes → length code ≤ 512 + 9 * length basis.config.deny + weights basis.chosen
+  length-code : (code : List ℕ) → code ≡ (layout xs).bytes → length code ≤ most_asked basis + 28
   length-code code e = omega (arith, ap length (code_is code e), length-bytes basis p.holds.to _ p.questions p.holds.part small)
 
   pub code_short : (code : List ℕ) → code ≡ (layout xs).bytes → length code ≤ need_of basis

@@ -1,5 +1,6 @@
 -- The emitted fragments and the items of the other questions answer all questions.
 use Rattle.std.proofs.Common.{◌≡◌, ℕ, ◌+◌, ◌*◌, ◌≤◌, List, [], ◌++◌, length, sym, ap, subst, ◌∙◌, append_assoc, arith}
+use Rattle.std.specs.Prelude.{count_by, is_some}
 use Rattle.apf_asm.specs.declared.item.Item.{Item}
 use Rattle.policy_state.specs.declared.basis.Basis.{Basis}
 use Rattle.policy_state.specs.declared.ruling.Ruling.{Ruling}
@@ -12,10 +13,10 @@ use Rattle.rule_items.proofs.Language.{said_first}
 use Rattle.rule_items.proofs.Parts.{part-then, part-same}
 use Rattle.rule_items.specs.Rulings.{said_of}
 use Rattle.rule_items.proofs.Rulings.{said-otherwise}
-use Rattle.apf_generate.specs.Listing.{ip_items, last_items}
-use Rattle.apf_generate.specs.Program.{asked, AddsIp6, HoldsQuestions}
+use Rattle.apf_generate.specs.Listing.{last_items}
+use Rattle.apf_generate.specs.Program.{asked, most_asked, AddsIp6, HoldsQuestions}
 use Rattle.apf_generate.specs.Sizes.{weights}
-use Rattle.apf_generate.proofs.Others.{ip4_part, others_part}
+use Rattle.apf_generate.proofs.Others.{others_part}
 
 -- what is said question by question is what all questions say
 all_said : (a b c d e : Ruling) → said_first (said_of a) (said_first (said_of b) (said_first (said_of c) (said_first (said_of d) (said_of e)))) ≡ said_of (otherwise a (otherwise b (otherwise c (otherwise d (otherwise e Silent)))))
@@ -27,8 +28,8 @@ all_said a b c d e =
     ap (said_first (said_of a)) from_b ∙ sym (said-otherwise a (otherwise b (otherwise c (otherwise d (otherwise e Silent)))))
 
 asked_said : (basis : Basis) (age : ℕ) (frame : List ℕ)
-    → said_first (said_of (link basis frame)) (said_first (said_of (arp basis frame)) (said_first (said_of (ip4 frame)) (said_first (said_of (ip6 basis age frame)) (said_of (others frame))))) ≡ asked basis age frame
-asked_said basis age frame = all_said (link basis frame) (arp basis frame) (ip4 frame) (ip6 basis age frame) (others frame)
+    → said_first (said_of (link basis frame)) (said_first (said_of (arp basis frame)) (said_first (said_of (ip4 basis frame)) (said_first (said_of (ip6 basis age frame)) (said_of (others frame))))) ≡ asked basis age frame
+asked_said basis age frame = all_said (link basis frame) (arp basis frame) (ip4 basis frame) (ip6 basis age frame) (others frame)
 
 regrouped : (f g i h k : List Item) → ((((([] ++ f) ++ g) ++ i) ++ h) ++ k) ≡ f ++ (g ++ (i ++ (h ++ k)))
 regrouped f g i h k = simp append_assoc
@@ -36,28 +37,30 @@ regrouped f g i h k = simp append_assoc
 chained : (f g i h k x0 x1 x2 x3 x4 x5 : List Item) → x0 ≡ [] → x1 ≡ x0 ++ f → x2 ≡ x1 ++ g → x3 ≡ x2 ++ i → x4 ≡ x3 ++ h → x5 ≡ x4 ++ k → x5 ≡ (((([] ++ f) ++ g) ++ i) ++ h) ++ k
 chained f g i h k x0 x1 x2 x3 x4 x5 none p q r s t = cc
 
-pub joined : (basis : Basis) (two three to : ℕ) (x0 x1 x2 x3 x4 x5 i k : List Item) → x0 ≡ []
-    → Emits (λ age frame. said_of (link basis frame)) (20 + 9 * length basis.config.deny) 2 two x0 x1
-    → Emits (λ age frame. said_of (arp basis frame)) 112 two three x1 x2
-    → i ≡ ip_items → x3 ≡ x2 ++ i
-    → AddsIp6 basis three to x3 x4
+pub joined : (basis : Basis) (a b c to : ℕ) (x0 x1 x2 x3 x4 x5 k : List Item) → x0 ≡ []
+    → Emits (λ age frame. said_of (link basis frame)) (20 + 9 * length basis.config.deny) 2 a x0 x1
+    → Emits (λ age frame. said_of (arp basis frame)) 112 a b x1 x2
+    → Emits (λ age frame. said_of (ip4 basis frame)) (160 + 80 * count_by is_some basis.state.keepalives) b c x2 x3
+    → AddsIp6 basis c to x3 x4
     → k ≡ last_items → x5 ≡ x4 ++ k → length basis.chosen ≤ 1000 → HoldsQuestions basis x5
-joined basis two three to x0 x1 x2 x3 x4 x5 i k none first second p r fifth q s records =
-    let from_two : 2 ≤ two = first.part.form.rises in
-    let from_three : two ≤ three = second.part.form.rises in
-    let n = length basis.config.deny in
-    let w = weights basis.chosen in
-    let from_ip6 = part-then _ _ three to to (142 + w) 26 fifth.question last_items (omega arith) fifth.part (others_part to) in
-    let from_ip4 = part-then _ _ three three to 13 (142 + w + 26) ip_items (fifth.question ++ last_items) (omega arith) (ip4_part three) from_ip6 in
-    let from_arp = part-then _ _ two three to 112 (13 + (142 + w + 26)) second.fragment (ip_items ++ (fifth.question ++ last_items)) from_two second.part from_ip4 in
-    let all = part-then _ _ 2 two to (20 + 9 * n) (112 + (13 + (142 + w + 26))) first.fragment (second.fragment ++ (ip_items ++ (fifth.question ++ last_items))) (omega arith) first.part from_arp in
-    let parts : x5 ≡ first.fragment ++ (second.fragment ++ (i ++ (fifth.question ++ k))) =
-    chained first.fragment second.fragment i fifth.question k x0 x1 x2 x3 x4 x5 none first.appended second.appended r fifth.appended s
-    ∙ regrouped first.fragment second.fragment i fifth.question k in
-    let same : x5 ≡ first.fragment ++ (second.fragment ++ (ip_items ++ (fifth.question ++ last_items))) = rw (p, q) at parts in
+joined basis a b c to x0 x1 x2 x3 x4 x5 k none first second third fourth q s records =
+    let rises : 2 ≤ a = first.part.form.rises in
+    let more : a ≤ b = second.part.form.rises in
+    let further : b ≤ c = third.part.form.rises in
+    let link_size = 20 + 9 * length basis.config.deny in
+    let ip4_size = 160 + 80 * count_by is_some basis.state.keepalives in
+    let ip6_size = 142 + weights basis.chosen in
+    let from_ip6 = part-then _ _ c to to ip6_size 26 fourth.question last_items (omega arith) fourth.part (others_part to) in
+    let from_ip4 = part-then _ _ b c to ip4_size (ip6_size + 26) third.fragment (fourth.question ++ last_items) further third.part from_ip6 in
+    let from_arp = part-then _ _ a b to 112 (ip4_size + (ip6_size + 26)) second.fragment (third.fragment ++ (fourth.question ++ last_items)) more second.part from_ip4 in
+    let all = part-then _ _ 2 a to link_size (112 + (ip4_size + (ip6_size + 26))) first.fragment (second.fragment ++ (third.fragment ++ (fourth.question ++ last_items))) rises first.part from_arp in
+    let parts : x5 ≡ first.fragment ++ (second.fragment ++ (third.fragment ++ (fourth.question ++ k))) =
+    chained first.fragment second.fragment third.fragment fourth.question k x0 x1 x2 x3 x4 x5 none first.appended second.appended third.appended fourth.appended s
+    ∙ regrouped first.fragment second.fragment third.fragment fourth.question k in
+    let same : x5 ≡ first.fragment ++ (second.fragment ++ (third.fragment ++ (fourth.question ++ last_items))) = rw q at parts in
     record {
       to = to;
-      few = omega (arith, first.few, second.few, fifth.few);
-      part = subst (λ (xs : List Item). IsPart (asked basis) 2 to (484 + 9 * n + w) xs) (sym same)
-          (part-same _ (asked basis) 2 to _ (484 + 9 * n + w) _ (asked_said basis) (omega arith) all);
+      few = omega (arith, first.few, second.few, third.few, fourth.few);
+      part = subst (λ (xs : List Item). IsPart (asked basis) 2 to (most_asked basis) xs) (sym same)
+          (part-same _ (asked basis) 2 to _ (most_asked basis) _ (asked_said basis) (omega arith) all);
     }

@@ -1,11 +1,11 @@
 -- The items of a whole program, but for those of its rules.
 use Rattle.std.specs.Prelude.{ℕ, List, [], ◌∷◌, ◌++◌}
-use Rattle.apf_coding.specs.declared.instruction.Op.TheVariants.{Ldh, Lddw, Stdw, Add, Jeq, Jne}
+use Rattle.apf_coding.specs.declared.instruction.Op.TheVariants.{Ldh, Lddw, Stdw, Add, Jne}
 use Rattle.apf_coding.specs.declared.machine.Verdict.TheVariants.{Pass, Drop}
 use Rattle.apf_asm.specs.declared.item.Item.{Item}
 use Rattle.apf_asm.specs.declared.item.Item.TheVariants as items
 use Rattle.apf_asm.specs.declared.item.Target.TheVariants as targets
-use Rattle.data_counters.specs.declared.counter.Counter.TheVariants.{PassedIpv4, PassedIpv6Icmp, PassedNonIpUnicast, DroppedEthBroadcast}
+use Rattle.data_counters.specs.declared.counter.Counter.TheVariants.{PassedIpv6Icmp, PassedNonIpUnicast, DroppedEthBroadcast}
 use Rattle.policy_state.specs.Ethernet.{broadcast}
 use Rattle.rule_items.specs.Building.{to_end, fixed, load, place, counting, jump_if, jump, jump_unless}
 
@@ -16,10 +16,6 @@ raising_items distance = fixed Lddw 0 1 distance ∷ fixed Add 0 1 1 ∷ fixed S
 -- TotalPackets is raised: R1 is 0 where a run begins, and the counter is the last word, at -4
 abbrev pub opening_items : List Item
 opening_items = raising_items 252
-
--- IPv4 frames
-abbrev pub ip_items : List Item
-ip_items = load Ldh 12 ∷ counting PassedIpv4 ∷ jump_if Jeq 0x800 (to_end Pass) ∷ []
 
 -- frames other than IPv6 go over its question
 abbrev pub ip6_test_items : ℕ → List Item

@@ -1,5 +1,5 @@
--- A code means a basis: on every frame, at every age and over every memory its run is the policy.
-use Rattle.std.specs.Prelude.{◌≡◌, ℕ, ◌<◌, ◌≤◌, ◌^◌, List, length}
+-- A code means a basis: on every frame of bytes, at every age and over every memory its run is the policy.
+use Rattle.std.specs.Prelude.{◌≡◌, ℕ, ◌<◌, ◌≤◌, ◌^◌, List, length, slice_index}
 use Rattle.apf_coding.specs.declared.machine.FaultKind.TheVariants.{Frame}
 use Rattle.apf_coding.specs.declared.machine.Why.{Why}
 use Rattle.apf_coding.specs.declared.machine.Why.TheVariants as whys
@@ -29,5 +29,5 @@ pub record HasFate (fate : Fate) (memory : List ℕ) (r : Run) : Type 0 where
   pub why : EndsBy fate r.outcome.why
 
 pub record Means (code : List ℕ) (basis : Basis) : Type 0 where
-  pub means : (frame : List ℕ) (age : ℕ) (memory : List ℕ) → length frame ≤ 262144 → age < 2 ^ 32 → length memory ≡ 128 →
+  pub means : (frame : List ℕ) (age : ℕ) (memory : List ℕ) → ((k : ℕ) → slice_index frame k < 256) → length frame ≤ 262144 → age < 2 ^ 32 → length memory ≡ 128 →
       HasFate (policy basis age frame) memory (run code memory frame age)

@@ -2,7 +2,7 @@
 
 ghost use Rattle.std.specs.Prelude.{◌≡◌, ◌≤◌, length, IfOk, OnOk};
 ghost use Rattle.apf_generate.specs.Means.{Means};
-ghost use Rattle.apf_generate.specs.Listing.{raising_items, ip_items, ip6_test_items, ip6_last_items, last_items, end_items};
+ghost use Rattle.apf_generate.specs.Listing.{raising_items, ip6_test_items, ip6_last_items, last_items, end_items};
 ghost use Rattle.apf_generate.specs.Program.{AddsIp6, HoldsQuestions, IsProgram};
 ghost use Rattle.apf_generate.specs.Sizes.{need_of};
 ghost use Rattle.size_fit.specs.Sizes.{limit_of};
@@ -13,7 +13,7 @@ use apf_base::{List, OutOfMemory};
 use apf_coding::{Op, Verdict};
 use arp_rules::{emit_arp, emit_link};
 use data_counters::Counter;
-use ip_rules::emit_ip6;
+use ip_rules::{emit_ip4, emit_ip6};
 use policy_state::Basis;
 use rule_items::{counting, fixed, jump, jump_if, jump_unless, load, place, to_end};
 use std::alloc::Global;
@@ -31,20 +31,6 @@ fn raising_items(alloc: Global, distance: u8) -> Result<List<Item>, OutOfMemory>
             fixed(alloc, Op::Lddw, 0, 1, u32::from(distance)),
             fixed(alloc, Op::Add, 0, 1, 1),
             fixed(alloc, Op::Stdw, 0, 1, u32::from(distance)),
-        ],
-    )
-}
-
-/// IPv4 frames.
-fn ip_items(alloc: Global) -> Result<List<Item>, OutOfMemory>
-    ensures { IfOk result (λ xs. xs ≡ ip_items) }
-{
-    List::of(
-        alloc,
-        [
-            load(alloc, Op::Ldh, 12),
-            counting(alloc, Counter::PassedIpv4),
-            jump_if(alloc, Op::Jeq, 0x800, to_end(Verdict::Pass)),
         ],
     )
 }
@@ -137,7 +123,7 @@ fn question_items(alloc: Global, basis: &Basis) -> Result<List<Item>, OutOfMemor
     let mut items = List::new(alloc);
     emit_link(alloc, basis, &mut next, &mut items)?;
     emit_arp(alloc, basis, &mut next, &mut items)?;
-    items.append(ip_items(alloc)?)?;
+    emit_ip4(alloc, basis, &mut next, &mut items)?;
     add_ip6(alloc, basis, &mut next, &mut items)?;
     items.append(last_items(alloc)?)?;
     Ok(items)

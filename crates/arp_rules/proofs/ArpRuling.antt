@@ -18,7 +18,7 @@ use Rattle.policy_state.specs.declared.ruling.Ruling.TheVariants.{Says, Silent}
 use Rattle.policy_state.specs.Asking.{reading, when, otherwise}
 use Rattle.policy_state.specs.Ethernet.{ethertype, destination, broadcast}
 use Rattle.policy_state.specs.Policy.{arp_opening, arp_operation, arp_sender, arp_target, gratuitous_arp, arp_for_other_hosts, arp_lines, arp}
-use Rattle.policy_state.proofs.AskingLaws.{otherwise-assoc, otherwise-silent, otherwise-when, when-not}
+use Rattle.policy_state.proofs.AskingLaws.{otherwise-assoc, otherwise-silent, reading-cond, when-not}
 use Rattle.policy_state.proofs.FieldsSeen.{number_seen, bytes_seen}
 use Rattle.rule_items.specs.Saying.{Tells}
 use Rattle.rule_items.proofs.Rules.{Yields, done, restated, counts, places, reads_half, reads_word, answers, answers_if, answers_unless, skips_if, told}
@@ -47,10 +47,6 @@ packet_of opening operation sender mac later =
 
 -- ---- are those of the table
 
-reading_cond : {A : Type 0} (o : Option A) (test : A → Bool) (v : Verdict) (c : Counter) (later : Ruling) → reading o (λ x. cond (test x) (Says v c) later) ≡ otherwise (reading o (λ x. when (test x) (Says v c))) later
-reading_cond None test v c later = refl
-reading_cond (Some x) test v c later = sym (otherwise-when (test x) v c later)
-
 -- one operation, by the tests of it
 one_operation : (request reply : Bool) (x y later : Ruling) (v : Verdict) (c : Counter) → (request ≡ true → reply ≡ false)
     → cond request later (otherwise (cond (not reply) (Says v c) (otherwise x y)) later)
@@ -73,9 +69,9 @@ unicast mac = reading mac (λ there. when (not (bytes_eq there broadcast)) (Says
 reply_parts : (sender : Option ℕ) (mac : Option (List ℕ)) (op : ℕ)
     → reply_of sender mac op ≡ cond (not (eqb op 2)) (Says Pass PassedArpUnknown) (otherwise (no_host sender) (unicast mac))
 reply_parts sender mac op = ap (λ (a : Ruling). cond (not (eqb op 2)) (Says Pass PassedArpUnknown) a)
-    (reading_cond sender (λ s. eqb s 0) Drop DroppedArpReplySpaNoHost _
+    (reading-cond sender (λ s. eqb s 0) Drop DroppedArpReplySpaNoHost _
     ∙ ap (λ (a : Ruling). otherwise (no_host sender) a)
-    (reading_cond mac (λ there. not (bytes_eq there broadcast)) Pass PassedArpUnicastReply Silent ∙ otherwise-silent (unicast mac)))
+    (reading-cond mac (λ there. not (bytes_eq there broadcast)) Pass PassedArpUnicastReply Silent ∙ otherwise-silent (unicast mac)))
 
 operation_same : (operation sender : Option ℕ) (mac : Option (List ℕ)) (later : Ruling)
     → operation_of operation sender mac later
@@ -90,7 +86,7 @@ operation_same (Some op) sender mac later =
 lines_same : (basis : Basis) (frame : List ℕ)
     → packet_of (part frame 14 6) (arp_operation frame) (arp_sender frame) (destination frame) (asked basis.state.address frame) ≡ arp_lines basis frame
 lines_same basis frame =
-    reading_cond (part frame 14 6) (λ there. not (bytes_eq there arp_opening)) Pass PassedArpNonIpv4 _
+    reading-cond (part frame 14 6) (λ there. not (bytes_eq there arp_opening)) Pass PassedArpNonIpv4 _
     ∙ ap (λ (later : Ruling). otherwise (reading (part frame 14 6) (λ there. when (not (bytes_eq there arp_opening)) (Says Pass PassedArpNonIpv4))) later)
     (operation_same (arp_operation frame) (arp_sender frame) (destination frame) (asked basis.state.address frame))
 
@@ -102,13 +98,13 @@ arp_same (Some e) a b p = when-not (eqb e 0x806) (otherwise a Silent) ∙ ap (λ
 
 module _ (n : ℕ) (frame : List ℕ) (m : State) where
   target_yields : (address : Option Address) (r0 r1 : ℕ) → Yields rulings n frame m r0 r1 (asked address frame) (target_items address)
-  target_yields None r0 r1 = restated rulings n frame m r0 r1 _ _ _ (reading_cond (arp_target frame) (λ t. eqb t 0) Drop DroppedGarpReply (Says Pass PassedArp))
+  target_yields None r0 r1 = restated rulings n frame m r0 r1 _ _ _ (reading-cond (arp_target frame) (λ t. eqb t 0) Drop DroppedGarpReply (Says Pass PassedArp))
       (reads_word rulings n frame m r0 r1 1 38 _ _ (arp_target frame) (number_seen frame 38 4) (λ t.
       counts rulings n frame m t r1 DroppedGarpReply _ _
       (answers_if rulings n frame m Jeq 0 t Drop DroppedGarpReply _ _ refl
       (counts rulings n frame m t _ PassedArp _ _
       (answers rulings n frame m t Pass PassedArp _ _ (done rulings n frame m t _))))))
-  target_yields (Some address) r0 r1 = restated rulings n frame m r0 r1 _ _ _ (reading_cond (arp_target frame) (λ t. not (eqb t address.ip)) Drop DroppedArpOtherHost (Says Pass PassedArp))
+  target_yields (Some address) r0 r1 = restated rulings n frame m r0 r1 _ _ _ (reading-cond (arp_target frame) (λ t. not (eqb t address.ip)) Drop DroppedArpOtherHost (Says Pass PassedArp))
       (reads_word rulings n frame m r0 r1 1 38 _ _ (arp_target frame) (number_seen frame 38 4) (λ t.
       counts rulings n frame m t r1 DroppedArpOtherHost _ _
       (answers_if rulings n frame m Jne address.ip t Drop DroppedArpOtherHost _ _ refl

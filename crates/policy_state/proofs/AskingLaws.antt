@@ -1,5 +1,5 @@
 -- Laws of the words in which the policy's questions are written.
-use Rattle.std.proofs.Common.{◌≡◌, Bool, true, false, cond, not, Option, Some, None, refl}
+use Rattle.std.proofs.Common.{◌≡◌, Bool, true, false, cond, not, Option, Some, None, refl, sym, ap, ◌∙◌}
 use Rattle.apf_coding.specs.declared.machine.Verdict.{Verdict}
 use Rattle.data_counters.specs.declared.counter.Counter.{Counter}
 use Rattle.policy_state.specs.declared.ruling.Ruling.{Ruling}
@@ -26,7 +26,17 @@ pub otherwise-when : (b : Bool) (verdict : Verdict) (counter : Counter) (later :
 otherwise-when true verdict counter later = refl
 otherwise-when false verdict counter later = refl
 
+-- a field that is tested, with an answer, and else goes on
+pub reading-cond : {A : Type 0} (o : Option A) (test : A → Bool) (verdict : Verdict) (counter : Counter) (later : Ruling)
+    → reading o (λ v. cond (test v) (Says verdict counter) later) ≡ otherwise (reading o (λ v. when (test v) (Says verdict counter))) later
+reading-cond None test verdict counter later = refl
+reading-cond (Some v) test verdict counter later = sym (otherwise-when (test v) verdict counter later)
+
 -- what is asked only where something is so
+pub when-cond : (b : Bool) (a : Ruling) → cond b a Silent ≡ when b a
+when-cond true a = refl
+when-cond false a = refl
+
 pub when-not : (b : Bool) (a : Ruling) → cond (not b) Silent a ≡ when b a
 when-not true a = refl
 when-not false a = refl
@@ -34,3 +44,8 @@ when-not false a = refl
 pub reading-when : {A : Type 0} (o : Option A) (test : A → Bool) (a : Ruling) → reading o (λ v. cond (not (test v)) Silent a) ≡ reading o (λ v. when (test v) a)
 reading-when None test a = refl
 reading-when (Some v) test a = when-not (test v) a
+
+-- the same, where the later question is joined to none
+pub reading-over : {A : Type 0} (o : Option A) (test : A → Bool) (a : Ruling) → reading o (λ v. cond (not (test v)) Silent (otherwise a Silent)) ≡ reading o (λ v. when (test v) a)
+reading-over None test a = refl
+reading-over (Some v) test a = when-not (test v) (otherwise a Silent) ∙ ap (λ (r : Ruling). when (test v) r) (otherwise-silent a)

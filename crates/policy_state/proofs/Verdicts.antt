@@ -1,11 +1,12 @@
 -- Each answer has a counter of its verdict.
-use Rattle.std.proofs.Common.{◌≡◌, ◌≢◌, ℕ, ◌≤◌, Bool, true, false, not, eqb, List, [], ◌∷◌, length, Option, Some, None, refl, subst, lit≤}
-use Rattle.std.proofs.lemmas.Bool.{ltb-false}
-use Rattle.std.specs.Prelude.{nat_lt, nat_le, map, ◌&&◌, bytes_eq, if◌then◌else◌}
+use Rattle.std.proofs.Common.{◌≡◌, ◌≢◌, ℕ, ◌≤◌, Bool, true, false, not, eqb, List, [], ◌∷◌, length, Option, Some, None, refl, subst, lit≤, sym, ap, ◌∙◌}
+use Rattle.std.proofs.lemmas.Bool.{ltb-false, eqb-true}
+use Rattle.std.specs.Prelude.{nat_lt, nat_le, map, ◌&&◌, bytes_eq, if◌then◌else◌, ◌+◌, ◌/◌, bit_and, is_some, [], ◌∷◌}
 use Rattle.apf_coding.specs.declared.machine.Verdict.{Verdict}
 use Rattle.apf_coding.specs.declared.machine.Verdict.TheVariants.{Pass, Drop}
 use Rattle.data_counters.specs.declared.counter.Counter.{Counter}
-use Rattle.data_counters.specs.declared.counter.Counter.TheVariants.{PassedArp, PassedArpNonIpv4, PassedArpUnknown, PassedArpUnicastReply, PassedIpv4, PassedIpv6NonIcmp, PassedIpv6UnicastNonIcmp, PassedIpv6Icmp, PassedNonIpUnicast, Dropped8023Frame, DroppedEthertypeDenied, DroppedEthBroadcast, DroppedArpReplySpaNoHost, DroppedGarpReply, DroppedArpOtherHost, DroppedRa, DroppedIpv6RouterSolicitation, DroppedIpv6MulticastNa, DroppedIpv6Multicast}
+use Rattle.data_counters.specs.declared.counter.Counter.TheVariants.{PassedArp, PassedArpNonIpv4, PassedArpUnknown, PassedArpUnicastReply, PassedIpv4, PassedIpv6NonIcmp, PassedIpv6UnicastNonIcmp, PassedIpv6Icmp, PassedNonIpUnicast, Dropped8023Frame, DroppedEthertypeDenied, DroppedEthBroadcast, DroppedArpReplySpaNoHost, DroppedGarpReply, DroppedArpOtherHost, DroppedRa, DroppedIpv6RouterSolicitation, DroppedIpv6MulticastNa, DroppedIpv6Multicast, PassedDhcp, PassedIpv4Unicast, DroppedIpv4L2Broadcast, DroppedIpv4BroadcastAddr, DroppedIpv4BroadcastNet, DroppedIpv4Multicast, DroppedIpv4KeepaliveAck}
+use Rattle.std.specs.List.{list_any}
 use Rattle.data_counters.specs.Counters.{number_of}
 use Rattle.policy_state.specs.declared.basis.Basis.{Basis}
 use Rattle.policy_state.specs.declared.basis.Chosen.{Chosen}
@@ -18,6 +19,9 @@ use Rattle.policy_state.specs.Ethernet.{destination, ethertype, broadcast}
 use Rattle.ra_records.specs.Advert.{same}
 use Rattle.std.specs.List.{list_all}
 use Rattle.policy_state.specs.Records.{lasts, advertised_again}
+use Rattle.frame_views.specs.Packets.{header_length}
+use Rattle.policy_state.specs.declared.state.Keepalive.{Keepalive}
+use Rattle.policy_state.specs.Ip4.{protocol, destination_address, fragment, dhcp, ip4_multicast, ip4_broadcast, net_broadcast_of, net_broadcast, ends_of, opening_of, slot_answer, keepalive_answers, ip4_to_this_host, ip4_lines}
 use Rattle.policy_state.specs.Policy.{is_denied, frames_802_3, denied_types, link, for_other_addresses, unknown_operations, replies_of_no_host, unicast_replies, arp_opening, arp_operation, arp_sender, arp_target, gratuitous_arp, arp_for_other_hosts, arp, ip4, ip6, others, questions}
 use Rattle.policy_state.specs.Ip6.{next_header, icmp_type, by_destination, echo_requests, ip6_multicast, ip6_other_than_icmp, router_solicitations, all_nodes, advertisements_to_all_nodes, ip6_header_lines}
 use Rattle.policy_state.specs.Whole.{Short, Says, fate_of, policy}
@@ -112,8 +116,53 @@ told_arp basis frame = told_reading (ethertype frame) _ (λ e. told_when (eqb e 
     (told_otherwise _ _ (told_other_hosts basis.state.address frame)
     (told_otherwise _ _ (told_says Pass PassedArp (record { least = lit≤ tt; most = lit≤ tt })) told_silent))))))))
 
-told_ip4 : (frame : List ℕ) → IsTold (ip4 frame)
-told_ip4 frame = told_reading (ethertype frame) _ (λ e. told_when (eqb e 0x800) _ (told_says Pass PassedIpv4 (record { least = lit≤ tt; most = lit≤ tt })))
+told_dhcp : (basis : Basis) (frame : List ℕ) → IsTold (dhcp basis frame)
+told_dhcp basis frame =
+    told_when basis.state.multicast _
+    (told_reading (protocol frame) _ (λ p. told_when (eqb p 17) _
+    (told_reading (fragment frame) _ (λ f. told_when (eqb (bit_and f 0x1fff) 0) _
+    (told_reading (field frame (16 + header_length frame) 2) _ (λ port. told_when (eqb port 68) _
+    (told_reading (part frame (50 + header_length frame) 6) _ (λ client. told_when (bytes_eq client basis.config.mac) _
+    (told_says Pass PassedDhcp (record { least = lit≤ tt; most = lit≤ tt }))))))))))
+
+told_multicast : (basis : Basis) (frame : List ℕ) → IsTold (ip4_multicast basis frame)
+told_multicast basis frame = told_when basis.state.multicast _ (told_reading (field frame 30 1) _ (λ b. told_when (eqb (bit_and b 0xf0) 0xe0) _ (told_says Drop DroppedIpv4Multicast (record { least = lit≤ tt; most = lit≤ tt }))))
+
+told_broadcast : (basis : Basis) (frame : List ℕ) → IsTold (ip4_broadcast basis frame)
+told_broadcast basis frame = told_when basis.state.multicast _ (told_reading (destination_address frame) _ (λ d. told_when (eqb d 0xffffffff) _ (told_says Drop DroppedIpv4BroadcastAddr (record { least = lit≤ tt; most = lit≤ tt }))))
+
+told_net : (address : Option Address) (frame : List ℕ) → IsTold (net_broadcast address frame)
+told_net None frame = told_silent
+told_net (Some address) frame = told_when (nat_lt address.prefix 31) _ (told_reading (destination_address frame) _ (λ d. told_when (eqb d (net_broadcast_of address)) _ (told_says Drop DroppedIpv4BroadcastNet (record { least = lit≤ tt; most = lit≤ tt }))))
+
+told_slot : (frame : List ℕ) (slot : Option Keepalive) → IsTold (slot_answer frame slot)
+told_slot frame None = told_silent
+told_slot frame (Some sent) =
+    told_reading (part frame 26 8) _ (λ ends. told_when (bytes_eq ends (ends_of sent)) _
+    (told_reading (field frame 16 2) _ (λ total. told_reading (field frame (26 + header_length frame) 1) _ (λ size. told_when (eqb (header_length frame + size / 4) total) _
+    (told_reading (part frame (14 + header_length frame) 12) _ (λ opening. told_when (bytes_eq opening (opening_of sent)) _
+    (told_says Drop DroppedIpv4KeepaliveAck (record { least = lit≤ tt; most = lit≤ tt }))))))))
+
+told_slots : (frame : List ℕ) (slots : List (Option Keepalive)) → IsTold (first_of (map (slot_answer frame) slots))
+told_slots frame [] = told_silent
+told_slots frame (slot ∷ slots) = told_otherwise _ _ (told_slot frame slot) (told_slots frame slots)
+
+told_keepalives : (basis : Basis) (frame : List ℕ) → IsTold (keepalive_answers basis frame)
+told_keepalives basis frame = told_when (list_any is_some basis.state.keepalives) _ (told_reading (protocol frame) _ (λ p. told_when (eqb p 6) _ (told_slots frame basis.state.keepalives)))
+
+told_this_host : (basis : Basis) (frame : List ℕ) → IsTold (ip4_to_this_host basis frame)
+told_this_host basis frame = told_when basis.state.multicast _ (told_reading (destination frame) _ (λ m.
+    told_if (bytes_eq m broadcast) _ _ (told_says Drop DroppedIpv4L2Broadcast (record { least = lit≤ tt; most = lit≤ tt })) (told_says Pass PassedIpv4Unicast (record { least = lit≤ tt; most = lit≤ tt }))))
+
+told_ip4 : (basis : Basis) (frame : List ℕ) → IsTold (ip4 basis frame)
+told_ip4 basis frame = told_reading (ethertype frame) _ (λ e. told_when (eqb e 0x800) _
+    (told_otherwise _ _ (told_dhcp basis frame)
+    (told_otherwise _ _ (told_multicast basis frame)
+    (told_otherwise _ _ (told_broadcast basis frame)
+    (told_otherwise _ _ (told_when basis.state.multicast _ (told_net basis.state.address frame))
+    (told_otherwise _ _ (told_keepalives basis frame)
+    (told_otherwise _ _ (told_this_host basis frame)
+    (told_otherwise _ _ (told_says Pass PassedIpv4 (record { least = lit≤ tt; most = lit≤ tt })) told_silent))))))))
 
 told_by_destination : (frame : List ℕ) → IsTold (by_destination frame)
 told_by_destination frame = told_reading (field frame 38 1) _ (λ b. told_if (eqb b 0xff) _ _ (told_says Drop DroppedIpv6Multicast (record { least = lit≤ tt; most = lit≤ tt })) (told_says Pass PassedIpv6UnicastNonIcmp (record { least = lit≤ tt; most = lit≤ tt })))
@@ -161,7 +210,7 @@ told_questions : (basis : Basis) (age : ℕ) (frame : List ℕ) → IsTold (firs
 told_questions basis age frame =
     told_otherwise _ _ (told_link basis frame)
     (told_otherwise _ _ (told_arp basis frame)
-    (told_otherwise _ _ (told_ip4 frame)
+    (told_otherwise _ _ (told_ip4 basis frame)
     (told_otherwise _ _ (told_ip6 basis age frame)
     (told_otherwise _ _ (told_others frame) told_silent))))
 
@@ -179,12 +228,33 @@ told_whole false answer verdict counter told e = absurd cc
 pub policy-tells : (basis : Basis) (age : ℕ) (frame : List ℕ) (verdict : Verdict) (counter : Counter) → policy basis age frame ≡ Says verdict counter → Tells verdict counter
 policy-tells basis age frame verdict counter e = told_whole (nat_lt 14 (length frame)) (first_of (questions basis age frame)) verdict counter (told_questions basis age frame) e
 
--- ---- the last question
+-- ---- the last line on IPv4, and the last question
 
 later_answers : (first later : Ruling) → later ≢ rulings.Silent → otherwise first later ≢ rulings.Silent
 later_answers rulings.Missing later answers e = absurd cc
 later_answers rulings.Silent later answers e = answers e
 later_answers (rulings.Says v c) later answers e = absurd cc
+
+ip4_lines-answer : (basis : Basis) (frame : List ℕ) → ip4_lines basis frame ≢ rulings.Silent
+ip4_lines-answer basis frame =
+    later_answers (dhcp basis frame) _
+    (later_answers (ip4_multicast basis frame) _
+    (later_answers (ip4_broadcast basis frame) _
+    (later_answers (when basis.state.multicast (net_broadcast basis.state.address frame)) _
+    (later_answers (keepalive_answers basis frame) _
+    (later_answers (ip4_to_this_host basis frame) _ (λ e. absurd cc))))))
+
+pub ip4-answers : (basis : Basis) (frame : List ℕ) → ethertype frame ≡ Some 0x800 → ip4 basis frame ≢ rulings.Silent
+ip4-answers basis frame e silent =
+    ip4_lines-answer basis frame (sym (ap (λ (o : Option ℕ). reading o (λ t. when (eqb t 0x800) (ip4_lines basis frame))) e) ∙ silent)
+
+other_test : (t : Bool) (e : ℕ) (a : Ruling) → eqb e 0x800 ≡ t → e ≢ 0x800 → when t a ≡ rulings.Silent
+other_test true e a is other = absurd (other (eqb-true e 0x800 is))
+other_test false e a is other = refl
+
+pub ip4-silent : (basis : Basis) (frame : List ℕ) (e : ℕ) → ethertype frame ≡ Some e → e ≢ 0x800 → ip4 basis frame ≡ rulings.Silent
+ip4-silent basis frame e there other =
+    ap (λ (o : Option ℕ). reading o (λ t. when (eqb t 0x800) (ip4_lines basis frame))) there ∙ other_test (eqb e 0x800) e (ip4_lines basis frame) refl other
 
 others_answer : (mac : Option (List ℕ)) → otherwise (reading mac (λ m. if bytes_eq m broadcast then rulings.Says Drop DroppedEthBroadcast else rulings.Says Pass PassedNonIpUnicast)) rulings.Silent ≢ rulings.Silent
 others_answer None e = absurd cc
@@ -196,7 +266,7 @@ others_answer (Some m) e = go (bytes_eq m broadcast) e
 
 pub questions-answer : (basis : Basis) (age : ℕ) (frame : List ℕ) → first_of (questions basis age frame) ≢ rulings.Silent
 questions-answer basis age frame =
-    later_answers (link basis frame) _ (later_answers (arp basis frame) _ (later_answers (ip4 frame) _ (later_answers (ip6 basis age frame) _ (others_answer (destination frame)))))
+    later_answers (link basis frame) _ (later_answers (arp basis frame) _ (later_answers (ip4 basis frame) _ (later_answers (ip6 basis age frame) _ (others_answer (destination frame)))))
 
 short_fate : (long : Bool) (answer : Ruling) → (if long then fate_of answer else Short) ≡ Short → long ≡ false
 short_fate false answer e = refl

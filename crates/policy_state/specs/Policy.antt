@@ -4,7 +4,7 @@
 use Rattle.std.specs.Prelude.{ℕ, ◌==◌, nat_lt, Bool, not, ◌&&◌, if◌then◌else◌, List, [], ◌∷◌, bytes_eq, Option, Some, None}
 use Rattle.std.specs.List.{list_any}
 use Rattle.apf_coding.specs.declared.machine.Verdict.TheVariants.{Pass, Drop}
-use Rattle.data_counters.specs.declared.counter.Counter.TheVariants.{PassedArp, PassedArpNonIpv4, PassedArpUnknown, PassedArpUnicastReply, PassedIpv4, PassedNonIpUnicast, Dropped8023Frame, DroppedEthertypeDenied, DroppedEthBroadcast, DroppedArpReplySpaNoHost, DroppedGarpReply, DroppedArpOtherHost}
+use Rattle.data_counters.specs.declared.counter.Counter.TheVariants.{PassedArp, PassedArpNonIpv4, PassedArpUnknown, PassedArpUnicastReply, PassedNonIpUnicast, Dropped8023Frame, DroppedEthertypeDenied, DroppedEthBroadcast, DroppedArpReplySpaNoHost, DroppedGarpReply, DroppedArpOtherHost}
 use Rattle.frame_views.specs.Fields.{field, part}
 use Rattle.policy_state.specs.declared.basis.Basis.{Basis}
 use Rattle.policy_state.specs.declared.state.Address.{Address}
@@ -12,6 +12,7 @@ use Rattle.policy_state.specs.declared.ruling.Ruling.{Ruling}
 use Rattle.policy_state.specs.declared.ruling.Ruling.TheVariants.{Says, Silent}
 use Rattle.policy_state.specs.Asking.{reading, when, first_of}
 use Rattle.policy_state.specs.Ethernet.{destination, ethertype, broadcast}
+use Rattle.policy_state.specs.Ip4.{ip4_lines}
 use Rattle.policy_state.specs.Ip6.{ip6_lines}
 
 -- ---- question 1: frames whose ethertype is a length
@@ -85,8 +86,8 @@ arp basis frame = reading (ethertype frame) (λ e. when (e == 0x806) (arp_lines 
 
 -- ---- question 4: IPv4
 
-abbrev pub ip4 : List ℕ → Ruling
-ip4 frame = reading (ethertype frame) (λ e. when (e == 0x800) (Says Pass PassedIpv4))
+abbrev pub ip4 : Basis → List ℕ → Ruling
+ip4 basis frame = reading (ethertype frame) (λ e. when (e == 0x800) (ip4_lines basis frame))
 
 -- ---- question 5: IPv6
 
@@ -102,4 +103,4 @@ others frame = reading (destination frame) (λ mac.
 -- ---- the whole
 
 abbrev pub questions : Basis → ℕ → List ℕ → List Ruling
-questions basis age frame = link basis frame ∷ arp basis frame ∷ ip4 frame ∷ ip6 basis age frame ∷ others frame ∷ []
+questions basis age frame = link basis frame ∷ arp basis frame ∷ ip4 basis frame ∷ ip6 basis age frame ∷ others frame ∷ []

@@ -1,29 +1,19 @@
 //! The policy, asked of a frame.
 
 ghost use Rattle.std.specs.Prelude.{◌≡◌};
-ghost use Rattle.policy_state.specs.Policy.{ip4, others, questions};
+ghost use Rattle.policy_state.specs.Policy.{others, questions};
 ghost use Rattle.policy_state.specs.Asking.{first_of};
 ghost use Rattle.policy_state.specs.Whole.{policy, fate_of, verdict_of, counter_of};
 
 use crate::Basis;
 use crate::arp::arp;
+use crate::ip4::ip4;
 use crate::ip6::ip6;
 use crate::link::{BROADCAST, link};
 use crate::ruling::Ruling;
 use apf_coding::Verdict;
 use data_counters::Counter;
 use frame_views::Ether;
-
-/// IPv4 frames.
-fn ip4(frame: &[u8]) -> Ruling
-    ensures { result ≡ ip4 frame.now }
-{
-    match Ether::new(frame).ethertype() {
-        None => Ruling::Missing,
-        Some(0x800) => Ruling::Says(Verdict::Pass, Counter::PassedIpv4),
-        Some(_) => Ruling::Silent,
-    }
-}
 
 /// All other frames.
 fn others(frame: &[u8]) -> Ruling
@@ -47,7 +37,7 @@ fn first_answer(basis: &Basis, age: u32, frame: &[u8]) -> Ruling
         answer = arp(basis, frame);
     }
     if answer == Ruling::Silent {
-        answer = ip4(frame);
+        answer = ip4(basis, frame);
     }
     if answer == Ruling::Silent {
         answer = ip6(basis, age, frame);

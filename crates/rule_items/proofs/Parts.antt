@@ -20,7 +20,7 @@ use Rattle.rule_items.proofs.Steps.{on}
 -- ---- what items say, one behind the other
 
 still_ready : (n : ℕ) (frame : List ℕ) (age : ℕ) (m : State) (r0 r1 : ℕ) → IsReady n frame age m → IsReady n frame age (with_registers r0 r1 m)
-still_ready n frame age m r0 r1 ready = record { long = ready.long; slots = ready.slots; memory = ready.memory }
+still_ready n frame age m r0 r1 ready = record { long = ready.long; bytes = ready.bytes; slots = ready.slots; memory = ready.memory }
 
 -- registers are no part of what is said of a machine
 same_base : (a : Said) (rest : List Item) (n : ℕ) (frame : List ℕ) (m : State) (r0 r1 : ℕ) (end : End) → Follows a rest n frame (with_registers r0 r1 m) end → Follows a rest n frame m end
@@ -33,6 +33,14 @@ tells-then q p xs ys away first second = record {
   tells = λ n frame age m rest ready.
       joined_said n frame m (q age frame) (p age frame) ys rest _ away (λ r0 r1. same_base (p age frame) rest n frame m r0 r1 _ (second.tells n frame age (with_registers r0 r1 m) rest (still_ready n frame age m r0 r1 ready)))
       (subst (λ (items : List Item). Follows (q age frame) (ys ++ rest) n frame m (on n frame items m)) (sym (append_assoc xs ys rest)) (first.tells n frame age m (ys ++ rest) ready));
+}
+
+-- what items tell, they yield from any registers on
+pub yields-told : {R C : Type 0} (L : Language R C) (question : ℕ → List ℕ → R) (xs : List Item) → Tells (λ age frame. L.said (question age frame)) xs → ((l : ℕ) → l < 2 → stands l xs ≡ false)
+    → (n : ℕ) (frame : List ℕ) (age : ℕ) (m : State) → IsReady n frame age m → (r0 r1 : ℕ) → Yields L n frame m r0 r1 (question age frame) xs
+yields-told L question xs t away n frame age m ready r0 r1 = record {
+  flows = λ rest. same_base (L.said (question age frame)) rest n frame m r0 r1 _ (t.tells n frame age (with_registers r0 r1 m) rest (still_ready n frame age m r0 r1 ready));
+  away = away;
 }
 
 -- ---- labels
@@ -54,6 +62,24 @@ fresh-away from to l (items.Label k ∷ xs) fresh lt =
 fresh-away from to l (items.Fixed f ∷ xs) fresh lt = fresh-away from to l xs fresh lt
 fresh-away from to l (items.Jump j ∷ xs) fresh lt = fresh-away from to l xs fresh lt
 fresh-away from to l (items.Byte b ∷ xs) fresh lt = fresh-away from to l xs fresh lt
+
+same_label : (l k : ℕ) (b : Bool) → k < l → b ≡ false → (eqb k l) || b ≡ false
+same_label l k b lt e = go (eqb k l) refl
+  where
+    go : (t : Bool) → eqb k l ≡ t → t || b ≡ false
+    go true h = absurd (grind (arith, nat_tests))
+    go false h = e
+
+-- nor do labels from the last of a fragment on
+pub fresh-above : (from to l : ℕ) (xs : List Item) → AreFresh from to (labels xs) → to ≤ l → stands l xs ≡ false
+unfolding labels stands
+fresh-above from to l [] fresh le = refl
+fresh-above from to l (items.Label k ∷ xs) fresh le =
+    let lt : k < to = fresh.1 in
+    same_label l k (stands l xs) (omega arith) (fresh-above from to l xs fresh.3 le)
+fresh-above from to l (items.Fixed f ∷ xs) fresh le = fresh-above from to l xs fresh le
+fresh-above from to l (items.Jump j ∷ xs) fresh le = fresh-above from to l xs fresh le
+fresh-above from to l (items.Byte b ∷ xs) fresh le = fresh-above from to l xs fresh le
 
 apart-append : (k : ℕ) (ks ls : List ℕ) → IsApart k ks → IsApart k ls → IsApart k (ks ++ ls)
 apart-append k [] ls h g = g
@@ -79,6 +105,21 @@ fresh-join from mid to [] ls le ge f g = fresh-lower from mid to ls le g
 fresh-join from mid to (k ∷ ks) ls le ge f g =
     let lt : k < mid = f.1 in
     (f.0, omega arith, apart-append k ks ls f.2 (apart-below k mid to ls lt g), fresh-join from mid to ks ls le ge f.3 g)
+
+apart-above : (from mid k : ℕ) (ls : List ℕ) → mid ≤ k → AreFresh from mid ls → IsApart k ls
+apart-above from mid k [] le fresh = tt
+apart-above from mid k (l ∷ ls) le fresh = let lt : l < mid = fresh.1 in ((λ e. absurd (omega arith)), apart-above from mid k ls le fresh.3)
+
+fresh-higher : (from mid to : ℕ) (ls : List ℕ) → mid ≤ to → AreFresh from mid ls → AreFresh from to ls
+fresh-higher from mid to [] le fresh = tt
+fresh-higher from mid to (l ∷ ls) le fresh = let lt : l < mid = fresh.1 in (fresh.0, omega arith, fresh.2, fresh-higher from mid to ls le fresh.3)
+
+-- the first labels are the later ones
+fresh-turned : (from mid to : ℕ) (ks ls : List ℕ) → from ≤ mid → mid ≤ to → AreFresh mid to ks → AreFresh from mid ls → AreFresh from to (ks ++ ls)
+fresh-turned from mid to [] ls le ge f g = fresh-higher from mid to ls ge g
+fresh-turned from mid to (k ∷ ks) ls le ge f g =
+    let above : mid ≤ k = f.0 in
+    (omega arith, f.1, apart-append k ks ls f.2 (apart-above from mid k ls above g), fresh-turned from mid to ks ls le ge f.3 g)
 
 -- ---- sizes
 
@@ -117,6 +158,16 @@ fragment-then from mid to most more xs ys x y =
     (sound-append xs ys (sound-fragment from mid most xs x) (sound-fragment mid to more ys y))
     (omega (arith, x.rises, y.rises))
     (subst (λ (ls : List ℕ). AreFresh from to ls) (sym (labels-append xs ys)) (fresh-join from mid to (labels xs) (labels ys) x.rises y.rises x.fresh y.fresh))
+    (omega (arith, x.drawn, y.drawn, ap length (labels-append xs ys), length-append (labels xs) (labels ys)))
+    (omega (arith, wide-append xs ys, x.short, y.short))
+
+-- the same where the first items have the later labels
+pub fragment-turned : (from mid to most more : ℕ) (xs ys : List Item) → IsFragment mid to most xs → IsFragment from mid more ys → IsFragment from to (most + more) (xs ++ ys)
+fragment-turned from mid to most more xs ys x y =
+    fragment-of from to (most + more) (xs ++ ys)
+    (sound-append xs ys (sound-fragment mid to most xs x) (sound-fragment from mid more ys y))
+    (omega (arith, x.rises, y.rises))
+    (subst (λ (ls : List ℕ). AreFresh from to ls) (sym (labels-append xs ys)) (fresh-turned from mid to (labels xs) (labels ys) y.rises x.rises x.fresh y.fresh))
     (omega (arith, x.drawn, y.drawn, ap length (labels-append xs ys), length-append (labels xs) (labels ys)))
     (omega (arith, wide-append xs ys, x.short, y.short))
 

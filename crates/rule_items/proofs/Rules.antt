@@ -1,11 +1,11 @@
 -- What items say, put together item by item: each rule takes the proof for the items behind.
-use Rattle.std.proofs.Common.{◌≡◌, ℕ, ◌+◌, ◌-◌, ◌*◌, ◌<◌, ◌≤◌, ◌^◌, Bool, true, false, cond, not, eqb, ltb, List, [], ◌∷◌, ◌++◌, length, take, drop, get_or, Option, Some, None, refl, sym, ap, subst, ◌∙◌, append_assoc, arith}
+use Rattle.std.proofs.Common.{◌≡◌, ℕ, ◌+◌, ◌-◌, ◌*◌, ◌/◌, ◌<◌, ◌≤◌, ◌^◌, Bool, true, false, cond, not, eqb, ltb, List, [], ◌∷◌, ◌++◌, length, take, drop, get_or, Option, Some, None, refl, sym, ap, subst, ◌∙◌, append_assoc, arith}
 use Rattle.std.specs.Prelude.{◌||◌, ◌==◌, nat_lt, bit_and, bytes_eq, slice_range}
 use Rattle.std.proofs.lemmas.Bool.Decides.{nat_tests}
 use Rattle.std.proofs.lemmas.Slice.Eq.{bytes_eq-Decides}
 use Rattle.apf_coding.specs.declared.instruction.Op.{Op}
-use Rattle.apf_coding.specs.declared.instruction.Op.TheVariants.{Ldb, Ldh, Ldw, Ldbx, Ldhx, Ldwx, Add, And, Li, Jeq, Jne, Jgt, Jlt, Jset, Jnebs, Ext}
-use Rattle.apf_coding.specs.declared.machine.FaultKind.TheVariants.{Frame}
+use Rattle.apf_coding.specs.declared.instruction.Op.TheVariants.{Ldb, Ldh, Ldw, Ldbx, Ldhx, Ldwx, Add, Div, And, Li, Jeq, Jne, Jgt, Jlt, Jset, Jnebs, Ext}
+use Rattle.apf_coding.specs.declared.machine.FaultKind.TheVariants.{Division, Frame}
 use Rattle.apf_coding.specs.declared.machine.Verdict.{Verdict}
 use Rattle.apf_coding.specs.declared.machine.Verdict.TheVariants.{Pass, Drop}
 use Rattle.apf_coding.specs.Words.{word}
@@ -43,7 +43,7 @@ pub label_of-below : (verdict : Verdict) → label_of verdict < 2
 label_of-below Pass = omega arith
 label_of-below Drop = omega arith
 
-above_two : (l k : ℕ) (b : Bool) → l < 2 → 2 ≤ k → b ≡ false → (eqb k l) || b ≡ false
+pub above_two : (l k : ℕ) (b : Bool) → l < 2 → 2 ≤ k → b ≡ false → (eqb k l) || b ≡ false
 above_two l k b lt le e = go (eqb k l) refl
   where
     go : (t : Bool) → eqb k l ≡ t → t || b ≡ false
@@ -105,6 +105,10 @@ unless_means n frame bytes to m some =
 chosen : (b : Bool) (x y : Meaning) → b ≡ true → cond b x y ≡ x
 chosen true x y e = refl
 chosen false x y e = absurd cc
+
+passed_by : (b : Bool) (x y : Meaning) → b ≡ false → cond b x y ≡ y
+passed_by true x y e = absurd cc
+passed_by false x y e = refl
 
 -- ---- the rules
 
@@ -176,6 +180,11 @@ module _ {R C : Type 0} (L : Language R C) (n : ℕ) (frame : List ℕ) (m : Sta
   unfolding meaning
   masks width k r0 r1 a xs y = does _ r0 r1 (bit_and r0 k) r1 a xs refl y
 
+  -- the quotient by a number that isn't 0
+  pub divides : (width k r0 r1 : ℕ) (a : R) (xs : List Item) → eqb k 0 ≡ false → Yields (r0 / k) r1 a xs → Yields r0 r1 a (fixed Div 0 width k ∷ xs)
+  unfolding meaning
+  divides width k r0 r1 a xs some y = does _ r0 r1 (r0 / k) r1 a xs (passed_by (eqb k 0) (Fault Division) _ some) y
+
   -- a slot's value
   pub recalls_0 : (width slot v r0 r1 : ℕ) (a : R) (xs : List Item) → ltb slot 16 ≡ true → get_or m.slots slot 0 ≡ v → Yields v r1 a xs → Yields r0 r1 a (fixed Ext 0 width slot ∷ xs)
   unfolding meaning extended
@@ -189,15 +198,31 @@ module _ {R C : Type 0} (L : Language R C) (n : ℕ) (frame : List ℕ) (m : Sta
 
   -- ---- fields
 
-  load_flows : (f : Fixed) (r0 r1 : ℕ) (k : ℕ → R) (xs rest : List Item) (o : Option ℕ) → meaning (fixed_instruction f) n frame (s r0 r1) ≡ loaded 0 o (s r0 r1) → ((v : ℕ) → Yields v r1 (k v) xs)
+  load_flows : (f : Fixed) (r0 r1 : ℕ) (k : ℕ → R) (xs rest : List Item) (o : Option ℕ) → meaning (fixed_instruction f) n frame (s r0 r1) ≡ loaded 0 o (s r0 r1) → ((v : ℕ) → o ≡ Some v → Yields v r1 (k v) xs)
       → Follows (L.said (reading L o k)) rest n frame m (on n frame (items.Fixed f ∷ (xs ++ rest)) (s r0 r1))
   load_flows f r0 r1 k xs rest None e more = from_said _ Missing rest _ L.said-missing (on-fault n frame f (xs ++ rest) (s r0 r1) Frame e)
-  load_flows f r0 r1 k xs rest (Some v) e more = from_end (L.said (k v)) rest _ _ (on-next n frame f (xs ++ rest) (s r0 r1) (s v r1) e) ((more v).flows rest)
+  load_flows f r0 r1 k xs rest (Some v) e more = from_end (L.said (k v)) rest _ _ (on-next n frame f (xs ++ rest) (s r0 r1) (s v r1) e) ((more v refl).flows rest)
 
   -- an instruction that loads a field into R0
   pub reads : (f : Fixed) (r0 r1 : ℕ) (k : ℕ → R) (xs : List Item) (o : Option ℕ) → meaning (fixed_instruction f) n frame (s r0 r1) ≡ loaded 0 o (s r0 r1) → ((v : ℕ) → Yields v r1 (k v) xs) → Yields r0 r1 (reading L o k) (items.Fixed f ∷ xs)
   unfolding stands
-  reads f r0 r1 k xs o e more = record { flows = λ rest. load_flows f r0 r1 k xs rest o e more; away = (more 0).away }
+  reads f r0 r1 k xs o e more = record { flows = λ rest. load_flows f r0 r1 k xs rest o e (λ v known. more v); away = (more 0).away }
+
+  -- the same, with what is known of the field
+  pub reads_known : (f : Fixed) (r0 r1 : ℕ) (k : ℕ → R) (xs : List Item) (o : Option ℕ) → meaning (fixed_instruction f) n frame (s r0 r1) ≡ loaded 0 o (s r0 r1) → ((l : ℕ) → l < 2 → stands l xs ≡ false) → ((v : ℕ) → o ≡ Some v → Yields v r1 (k v) xs)
+      → Yields r0 r1 (reading L o k) (items.Fixed f ∷ xs)
+  unfolding stands
+  reads_known f r0 r1 k xs o e away more = record { flows = λ rest. load_flows f r0 r1 k xs rest o e more; away = away }
+
+  load_1_flows : (f : Fixed) (r0 r1 : ℕ) (k : ℕ → R) (xs rest : List Item) (o : Option ℕ) → meaning (fixed_instruction f) n frame (s r0 r1) ≡ loaded 1 o (s r0 r1) → ((v : ℕ) → Yields r0 v (k v) xs)
+      → Follows (L.said (reading L o k)) rest n frame m (on n frame (items.Fixed f ∷ (xs ++ rest)) (s r0 r1))
+  load_1_flows f r0 r1 k xs rest None e more = from_said _ Missing rest _ L.said-missing (on-fault n frame f (xs ++ rest) (s r0 r1) Frame e)
+  load_1_flows f r0 r1 k xs rest (Some v) e more = from_end (L.said (k v)) rest _ _ (on-next n frame f (xs ++ rest) (s r0 r1) (s r0 v) e) ((more v).flows rest)
+
+  -- an instruction that loads a field into R1
+  pub reads_1 : (f : Fixed) (r0 r1 : ℕ) (k : ℕ → R) (xs : List Item) (o : Option ℕ) → meaning (fixed_instruction f) n frame (s r0 r1) ≡ loaded 1 o (s r0 r1) → ((v : ℕ) → Yields r0 v (k v) xs) → Yields r0 r1 (reading L o k) (items.Fixed f ∷ xs)
+  unfolding stands
+  reads_1 f r0 r1 k xs o e more = record { flows = λ rest. load_1_flows f r0 r1 k xs rest o e more; away = (more 0).away }
 
   -- the number is seen as o, in whatever words
   module _ (r0 r1 width at : ℕ) (k : ℕ → R) (xs : List Item) (o : Option ℕ) where
@@ -213,7 +238,15 @@ module _ {R C : Type 0} (L : Language R C) (n : ℕ) (frame : List ℕ) (m : Sta
     unfolding meaning load_number
     reads_word e more = reads _ r0 r1 k xs o (ap (λ (there : Option ℕ). loaded 0 there (s r0 r1)) e) more
 
+    pub reads_half_1 : frame_number frame at 2 ≡ o → ((v : ℕ) → Yields r0 v (k v) xs) → Yields r0 r1 (reading L o k) (fixed Ldh 1 width at ∷ xs)
+    unfolding meaning load_number
+    reads_half_1 e more = reads_1 _ r0 r1 k xs o (ap (λ (there : Option ℕ). loaded 1 there (s r0 r1)) e) more
+
     -- at a distance from R1
+    pub reads_byte_known_at : frame_number frame (word (at + r1)) 1 ≡ o → ((l : ℕ) → l < 2 → stands l xs ≡ false) → ((v : ℕ) → o ≡ Some v → Yields v r1 (k v) xs) → Yields r0 r1 (reading L o k) (fixed Ldbx 0 width at ∷ xs)
+    unfolding meaning load_number
+    reads_byte_known_at e away more = reads_known _ r0 r1 k xs o (ap (λ (there : Option ℕ). loaded 0 there (s r0 r1)) e) away more
+
     pub reads_byte_at : frame_number frame (word (at + r1)) 1 ≡ o → ((v : ℕ) → Yields v r1 (k v) xs) → Yields r0 r1 (reading L o k) (fixed Ldbx 0 width at ∷ xs)
     unfolding meaning load_number
     reads_byte_at e more = reads _ r0 r1 k xs o (ap (λ (there : Option ℕ). loaded 0 there (s r0 r1)) e) more

@@ -1,5 +1,5 @@
 -- What items say of a frame, and what it is for them to say so.
-use Rattle.std.specs.Prelude.{◌≡◌, ℕ, ◌+◌, ◌-◌, ◌*◌, ◌<◌, ◌^◌, List, ◌∷◌, [], ◌++◌, length, replicate, Option, Some, None}
+use Rattle.std.specs.Prelude.{◌≡◌, ℕ, ◌+◌, ◌-◌, ◌*◌, ◌<◌, ◌^◌, List, ◌∷◌, [], ◌++◌, length, replicate, slice_index, Option, Some, None}
 use Rattle.apf_coding.specs.declared.machine.Verdict.{Verdict}
 use Rattle.apf_coding.specs.declared.machine.FaultKind.{FaultKind}
 use Rattle.apf_coding.specs.declared.machine.FaultKind.TheVariants.{Frame}
@@ -51,9 +51,10 @@ Follows Silent rest n frame m end = (r0 : ℕ) × ((r1 : ℕ) × (end ≡ end_of
 abbrev pub slots_of : ℕ → List ℕ → ℕ → List ℕ
 slots_of n frame age = replicate 11 0 ++ (n ∷ (n + 128) ∷ header_length frame ∷ length frame ∷ age ∷ [])
 
--- a machine as it stands before a rule: any registers, the first slots, a memory of 128 bytes, a frame that is asked of
+-- a machine as it stands before a rule: any registers, the first slots, a memory of 128 bytes, a frame of bytes that is asked of
 pub record IsReady (n : ℕ) (frame : List ℕ) (age : ℕ) (m : State) : Type 0 where
   pub long : 14 < length frame
+  pub bytes : (k : ℕ) → slice_index frame k < 256
   pub slots : m.slots ≡ slots_of n frame age
   pub memory : length m.memory ≡ 128
 

@@ -1,0 +1,103 @@
+-- The items of the rules for IPv4 and for keepalives. Headers are those of RFC 791 (IPv4), RFC 768 (UDP), RFC 2131 (DHCP)
+-- and RFC 9293 (TCP).
+use Rattle.std.specs.Prelude.{◌≡◌, ℕ, ◌+◌, ◌<◌, ◌^◌, Bool, true, false, nat_lt, if◌then◌else◌, List, [], ◌∷◌, ◌++◌, length, slice_index, Option, Some, None}
+use Rattle.apf_coding.specs.declared.instruction.Op.TheVariants.{Ldb, Ldh, Ldw, Ldbx, Ldhx, Add, Div, And, Ext, Jeq, Jne, Jset}
+use Rattle.apf_coding.specs.declared.machine.Verdict.TheVariants.{Pass, Drop}
+use Rattle.apf_asm.specs.declared.item.Item.{Item}
+use Rattle.apf_asm.specs.declared.item.Item.TheVariants as items
+use Rattle.apf_asm.specs.declared.item.Target.TheVariants as targets
+use Rattle.data_counters.specs.declared.counter.Counter.TheVariants.{PassedDhcp, PassedIpv4, PassedIpv4Unicast, DroppedIpv4L2Broadcast, DroppedIpv4BroadcastAddr, DroppedIpv4BroadcastNet, DroppedIpv4Multicast, DroppedIpv4KeepaliveAck}
+use Rattle.policy_state.specs.declared.basis.Basis.{Basis}
+use Rattle.policy_state.specs.declared.state.Address.{Address}
+use Rattle.policy_state.specs.declared.state.Keepalive.{Keepalive}
+use Rattle.policy_state.specs.Ethernet.{broadcast}
+use Rattle.policy_state.specs.Ip4.{net_broadcast_of, ends_of, opening_of}
+use Rattle.rule_items.specs.Building.{to_end, fixed, load, place, counting, jump_if, jump_if_r1, jump, jump_unless}
+
+-- a register is the IPv4 header's length, which is in slot 13
+abbrev pub header_into : ℕ → Item
+header_into register = fixed Ext register 1 13
+
+-- ---- answers to keepalives
+
+-- an answer to one; other packets go over it
+abbrev pub answer_items : ℕ → Keepalive → List Item
+answer_items away sent =
+    place 26 ∷ jump_unless (ends_of sent) (targets.Label away)
+    ∷ header_into 1 ∷ load Ldbx 26 ∷ fixed Div 0 1 4 ∷ fixed Add 1 0 0
+    ∷ fixed Ldh 1 1 16 ∷ jump_if_r1 Jne (targets.Label away)
+    ∷ header_into 0 ∷ fixed Add 0 1 14 ∷ jump_unless (opening_of sent) (targets.Label away)
+    ∷ counting DroppedIpv4KeepaliveAck ∷ jump (to_end Drop)
+    ∷ items.Label away
+    ∷ []
+
+-- slot by slot, with a label for each keepalive
+abbrev pub slots_items : ℕ → List (Option Keepalive) → List Item
+slots_items next [] = []
+slots_items next (None ∷ slots) = slots_items next slots
+slots_items next (Some sent ∷ slots) = answer_items next sent ++ slots_items (next + 1) slots
+
+-- other packets than TCP go over all of them. Where there is no keepalive there are no items at all
+abbrev pub segment_items : ℕ → List Item → List Item
+segment_items over answers = load Ldb 23 ∷ jump_if Jne 6 (targets.Label over) ∷ (answers ++ (items.Label over ∷ []))
+
+-- ---- what is asked before
+
+-- DHCP to this host; other packets go over it
+abbrev pub dhcp_items : ℕ → List ℕ → List Item
+dhcp_items away mac =
+    load Ldb 23 ∷ jump_if Jne 17 (targets.Label away)
+    ∷ load Ldh 20 ∷ jump_if Jset 0x1fff (targets.Label away)
+    ∷ header_into 1 ∷ load Ldhx 16 ∷ jump_if Jne 68 (targets.Label away)
+    ∷ header_into 0 ∷ fixed Add 0 1 50 ∷ jump_unless mac (targets.Label away)
+    ∷ counting PassedDhcp ∷ jump (to_end Pass)
+    ∷ items.Label away
+    ∷ []
+
+-- the net's broadcast address, with the destination in R0
+abbrev pub net_items : Option Address → List Item
+net_items None = []
+net_items (Some address) =
+    if nat_lt address.prefix 31 then counting DroppedIpv4BroadcastNet ∷ jump_if Jeq (net_broadcast_of address) (to_end Drop) ∷ []
+    else []
+
+-- multicast and broadcast
+abbrev pub destination_items : Option Address → List Item
+destination_items address =
+    load Ldb 30 ∷ fixed And 0 1 0xf0 ∷ counting DroppedIpv4Multicast ∷ jump_if Jeq 0xe0 (to_end Drop)
+    ∷ load Ldw 30 ∷ counting DroppedIpv4BroadcastAddr ∷ jump_if Jeq 0xffffffff (to_end Drop)
+    ∷ net_items address
+
+-- where multicast is filtered
+abbrev pub filtered_items : Bool → ℕ → List ℕ → Option Address → List Item
+filtered_items true away mac address = dhcp_items away mac ++ destination_items address
+filtered_items false away mac address = []
+
+-- ---- what is asked behind
+
+abbrev pub last_items : Bool → List Item
+last_items true =
+    place 0 ∷ counting PassedIpv4Unicast ∷ jump_unless broadcast (to_end Pass)
+    ∷ counting DroppedIpv4L2Broadcast ∷ jump (to_end Drop)
+    ∷ []
+last_items false = counting PassedIpv4 ∷ jump (to_end Pass) ∷ []
+
+-- ---- the whole, round the items for keepalives
+
+-- other frames go over the packet; the first label is DHCP's
+abbrev pub ip4_items : Basis → ℕ → List Item → List Item
+ip4_items basis label keepalives =
+    load Ldh 12 ∷ jump_if Jne 0x800 (targets.Label (label + 1))
+    ∷ ((filtered_items basis.state.multicast label basis.config.mac basis.state.address ++ (keepalives ++ last_items basis.state.multicast)) ++ (items.Label (label + 1) ∷ []))
+
+-- ---- what is known of the basis
+
+-- a MAC
+pub record IsMac (mac : List ℕ) : Type 0 where
+  pub six : length mac ≡ 6
+  pub bytes : (k : ℕ) → slice_index mac k < 256
+
+-- the broadcast address of a net that has one is a number of four bytes
+abbrev pub IsInRange : Option Address → Type 0
+IsInRange None = Unit {0}
+IsInRange (Some address) = address.prefix < 31 → net_broadcast_of address < 2 ^ 32
