@@ -51,9 +51,9 @@ joined basis a b c to x0 x1 x2 x3 x4 x5 k none first second third fourth q s rec
     let ip4_size = 160 + 80 * count_by is_some basis.state.keepalives in
     let ip6_size = 142 + weights basis.chosen in
     let from_ip6 = part-then _ _ c to to ip6_size 26 fourth.question last_items (omega arith) fourth.part (others_part to) in
-    let from_ip4 = part-then _ _ b c to ip4_size (ip6_size + 26) third.fragment (fourth.question ++ last_items) further third.part from_ip6 in
-    let from_arp = part-then _ _ a b to 112 (ip4_size + (ip6_size + 26)) second.fragment (third.fragment ++ (fourth.question ++ last_items)) more second.part from_ip4 in
-    let all = part-then _ _ 2 a to link_size (112 + (ip4_size + (ip6_size + 26))) first.fragment (second.fragment ++ (third.fragment ++ (fourth.question ++ last_items))) rises first.part from_arp in
+    let from_ip4 = part-then _ _ b c to ip4_size (ip6_size + 26) third.fragment (fourth.question ++ last_items) (omega arith) third.part from_ip6 in
+    let from_arp = part-then _ _ a b to 112 (ip4_size + (ip6_size + 26)) second.fragment (third.fragment ++ (fourth.question ++ last_items)) rises second.part from_ip4 in
+    let all = part-then _ _ 2 a to link_size (112 + (ip4_size + (ip6_size + 26))) first.fragment (second.fragment ++ (third.fragment ++ (fourth.question ++ last_items))) (omega arith) first.part from_arp in
     let parts : x5 ≡ first.fragment ++ (second.fragment ++ (third.fragment ++ (fourth.question ++ k))) =
     chained first.fragment second.fragment third.fragment fourth.question k x0 x1 x2 x3 x4 x5 none first.appended second.appended third.appended fourth.appended s
     ∙ regrouped first.fragment second.fragment third.fragment fourth.question k in
