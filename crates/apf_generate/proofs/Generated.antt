@@ -1,6 +1,6 @@
 -- What is assembled from the items of a whole program.
 use Rattle.std.proofs.Common.{◌≡◌, ℕ, ◌+◌, ◌≤◌, List, length, Some, refl, sym, ap, subst, ◌∙◌, arith}
-use Rattle.std.specs.Prelude.{All, count_by, is_some}
+use Rattle.std.specs.Prelude.{All}
 use Rattle.apf_asm.specs.declared.item.AsmError.{AsmError}
 use Rattle.apf_asm.specs.declared.item.Item.{Item}
 use Rattle.apf_asm.specs.Items.{IsItemForm}
@@ -10,12 +10,13 @@ use Rattle.policy_state.specs.declared.basis.Basis.{Basis}
 use Rattle.apf_generate.specs.Listing.{between_ends}
 use Rattle.apf_generate.specs.Means.{Means}
 use Rattle.apf_generate.specs.Program.{most_asked, IsProgram}
-use Rattle.apf_generate.specs.Sizes.{base_of}
+use Rattle.apf_generate.specs.Sizes.{need_of}
+use Rattle.size_fit.specs.Sizes.{limit_of}
 use Rattle.apf_generate.proofs.AnyProgram.{forms, few_items, length-bytes, means_of, not_refused}
 
-module _ (basis : Basis) (xs : List Item) (few : length basis.config.deny ≤ 32) (eight : count_by is_some basis.state.keepalives ≤ 8) (p : IsProgram basis xs) where
+module _ (basis : Basis) (xs : List Item) (few : length basis.config.deny ≤ 32) (most : basis.config.capacity ≤ 8192) (p : IsProgram basis xs) (fits : need_of basis ≤ limit_of basis.config) where
   small : most_asked basis ≤ 65000
-  small = omega arith
+  small = omega (arith, few, most, fits)
 
   pub items_formed : All IsItemForm xs
   items_formed = subst (λ (ys : List Item). All IsItemForm ys) (sym p.whole) (forms basis p.holds.to _ p.questions p.holds.part small)
@@ -32,7 +33,7 @@ module _ (basis : Basis) (xs : List Item) (few : length basis.config.deny ≤ 32
   length-code : (code : List ℕ) → code ≡ (layout xs).bytes → length code ≤ most_asked basis + 28
   length-code code e = omega (arith, ap length (code_is code e), length-bytes basis p.holds.to _ p.questions p.holds.part small)
 
-  pub code_short : (code : List ℕ) → code ≡ (layout xs).bytes → length code ≤ base_of basis
+  pub code_short : (code : List ℕ) → code ≡ (layout xs).bytes → length code ≤ need_of basis
   code_short code e = omega (arith, length-code code e)
 
   -- no label is refused, and the code isn't too long
@@ -43,4 +44,4 @@ module _ (basis : Basis) (xs : List Item) (few : length basis.config.deny ≤ 32
       cc
 
   pub not_overlong : (bytes : ℕ) → IsOverlong xs bytes → ⊥
-  not_overlong bytes long = omega (arith, small, long.long, long.length_is, length-code (layout xs).bytes refl)
+  not_overlong bytes long = omega (arith, long.long, long.length_is, length-code (layout xs).bytes refl)

@@ -1,25 +1,24 @@
--- The items for IPv6 and all other frames say what their questions answer.
-use Rattle.std.proofs.Common.{◌≡◌, ℕ, Bool, true, false, cond, not, eqb, List, [], ◌∷◌, ◌++◌, Option, Some, None, refl, sym, ap, ◌∙◌, arith, lit<, lit≤}
+-- The items for all other frames say what their question answers.
+use Rattle.std.proofs.Common.{◌≡◌, ℕ, Bool, true, false, cond, not, List, [], Option, Some, None, refl, arith, lit<, lit≤}
 use Rattle.std.specs.Prelude.{bytes_eq}
-use Rattle.apf_coding.specs.declared.instruction.Op.TheVariants.{Ldh, Li, Jeq}
+use Rattle.apf_coding.specs.declared.instruction.Op.TheVariants.{Li}
 use Rattle.apf_coding.specs.declared.machine.Verdict.TheVariants.{Pass, Drop}
-use Rattle.data_counters.specs.declared.counter.Counter.TheVariants.{PassedIpv6Icmp, PassedNonIpUnicast, DroppedEthBroadcast}
+use Rattle.data_counters.specs.declared.counter.Counter.TheVariants.{PassedNonIpUnicast, DroppedEthBroadcast}
 use Rattle.policy_state.specs.declared.ruling.Ruling.{Ruling}
 use Rattle.policy_state.specs.declared.ruling.Ruling.TheVariants.{Says}
-use Rattle.policy_state.specs.Asking.{reading, when, otherwise, first_of}
-use Rattle.policy_state.specs.Ethernet.{ethertype, destination, broadcast}
-use Rattle.policy_state.specs.Policy.{ip6, others}
-use Rattle.policy_state.proofs.AskingLaws.{otherwise-silent, reading-cond}
-use Rattle.policy_state.proofs.FieldsSeen.{number_seen, bytes_seen}
+use Rattle.policy_state.specs.Asking.{reading}
+use Rattle.policy_state.specs.Ethernet.{destination, broadcast}
+use Rattle.policy_state.specs.Policy.{others}
+use Rattle.policy_state.proofs.FieldsSeen.{bytes_seen}
 use Rattle.rule_items.specs.Fragment.{IsPart, labels}
 use Rattle.rule_items.specs.Saying.{Tells}
-use Rattle.rule_items.proofs.Forms.{IsSound, bytes_fit, sound-nil, sound-byte, sound-if_end, sound-jump_end, sound-unless_end}
+use Rattle.rule_items.proofs.Forms.{IsSound, bytes_fit, sound-nil, sound-byte, sound-jump_end, sound-unless_end}
 use Rattle.rule_items.proofs.Parts.{fragment-of}
-use Rattle.rule_items.proofs.Rules.{done, restated, counts, places, reads_half, answers, answers_if, answers_unless, told}
+use Rattle.rule_items.proofs.Rules.{done, restated, counts, places, answers, answers_unless, told}
 use Rattle.rule_items.specs.Rulings.{said_of}
 use Rattle.rule_items.proofs.Rulings.{rulings}
 use Rattle.rule_items.proofs.Rulings.{sound-counting}
-use Rattle.apf_generate.specs.Listing.{ip_items, last_items}
+use Rattle.apf_generate.specs.Listing.{last_items}
 
 -- ---- the rulings as the items come to them are those of the table
 
@@ -34,34 +33,27 @@ last_same : (mac : Option (List ℕ)) → last_of mac ≡ reading mac (λ there.
 last_same None = refl
 last_same (Some there) = cond-not (bytes_eq there broadcast) _ _
 
-others_same : (o : Option ℕ) (a b : Ruling) → a ≡ b → reading o (λ e. cond (eqb e 0x86dd) (Says Pass PassedIpv6Icmp) a) ≡ otherwise (reading o (λ e. when (eqb e 0x86dd) (Says Pass PassedIpv6Icmp))) b
-others_same o a b p = reading-cond o (λ e. eqb e 0x86dd) Pass PassedIpv6Icmp a ∙ ap (λ (later : Ruling). otherwise (reading o (λ e. when (eqb e 0x86dd) (Says Pass PassedIpv6Icmp))) later) p
-
 -- ---- the items come to them
 
-others_tell : Tells (λ age frame. said_of (first_of (ip6 frame ∷ others frame ∷ []))) (ip_items ++ last_items)
-others_tell = told rulings (λ age frame. first_of (ip6 frame ∷ others frame ∷ [])) _ (λ n frame age m ready.
-    restated rulings n frame m m.r0 m.r1 _ _ _ (others_same (ethertype frame) _ _ (last_same (destination frame) ∙ sym (otherwise-silent (others frame))))
-    (reads_half rulings n frame m m.r0 m.r1 1 12 _ _ (ethertype frame) (number_seen frame 12 2) (λ e.
-    counts rulings n frame m e m.r1 PassedIpv6Icmp _ _
-    (answers_if rulings n frame m Jeq 0x86dd e Pass PassedIpv6Icmp _ _ refl
-    (places rulings n frame m e _ 1 0 _ _ (lit< tt)
+others_tell : Tells (λ age frame. said_of (others frame)) last_items
+others_tell = told rulings (λ age frame. others frame) _ (λ n frame age m ready.
+    restated rulings n frame m m.r0 m.r1 _ _ _ (last_same (destination frame))
+    (places rulings n frame m m.r0 m.r1 1 0 _ _ (lit< tt)
     (counts rulings n frame m 0 _ PassedNonIpUnicast _ _
     (answers_unless rulings n frame m 0 broadcast Pass PassedNonIpUnicast _ _ (destination frame) (bytes_seen frame 0 6) (lit< tt)
     (counts rulings n frame m 0 _ DroppedEthBroadcast _ _
-    (answers rulings n frame m 0 Drop DroppedEthBroadcast _ _ (done rulings n frame m 0 _))))))))))
+    (answers rulings n frame m 0 Drop DroppedEthBroadcast _ _ (done rulings n frame m 0 _)))))))
 
 -- ---- their form
 
-sound-others : IsSound (ip_items ++ last_items)
-sound-others =
-    sound-byte Ldh 0 12 _ refl (lit< tt) (lit< tt) (sound-counting PassedIpv6Icmp _ (sound-if_end Jeq 0x86dd Pass _ refl (lit< tt)
-    (sound-byte Li 0 0 _ refl (lit< tt) (lit< tt) (sound-counting PassedNonIpUnicast _ (sound-unless_end broadcast Pass _ (lit< tt) (lit≤ tt) (bytes_fit broadcast refl)
-    (sound-counting DroppedEthBroadcast _ (sound-jump_end Drop [] sound-nil)))))))
+sound-last : IsSound last_items
+sound-last =
+    sound-byte Li 0 0 _ refl (lit< tt) (lit< tt) (sound-counting PassedNonIpUnicast _ (sound-unless_end broadcast Pass _ (lit< tt) (lit≤ tt) (bytes_fit broadcast refl)
+    (sound-counting DroppedEthBroadcast _ (sound-jump_end Drop [] sound-nil))))
 
-pub others_part : (next : ℕ) → IsPart (λ age frame. said_of (first_of (ip6 frame ∷ others frame ∷ []))) next next 39 (ip_items ++ last_items)
+pub others_part : (next : ℕ) → IsPart (λ age frame. said_of (others frame)) next next 26 last_items
 unfolding labels
 others_part next = record {
-  form = fragment-of next next 39 (ip_items ++ last_items) sound-others (omega arith) tt (omega arith) (lit≤ tt);
+  form = fragment-of next next 26 last_items sound-last (omega arith) tt (omega arith) (lit≤ tt);
   tells = others_tell;
 }

@@ -1,6 +1,6 @@
 -- The items of a whole program, but for those of its rules.
 use Rattle.std.specs.Prelude.{ℕ, List, [], ◌∷◌, ◌++◌}
-use Rattle.apf_coding.specs.declared.instruction.Op.TheVariants.{Ldh, Lddw, Stdw, Add, Jeq}
+use Rattle.apf_coding.specs.declared.instruction.Op.TheVariants.{Ldh, Lddw, Stdw, Add, Jne}
 use Rattle.apf_coding.specs.declared.machine.Verdict.TheVariants.{Pass, Drop}
 use Rattle.apf_asm.specs.declared.item.Item.{Item}
 use Rattle.apf_asm.specs.declared.item.Item.TheVariants as items
@@ -17,9 +17,17 @@ raising_items distance = fixed Lddw 0 1 distance ∷ fixed Add 0 1 1 ∷ fixed S
 abbrev pub opening_items : List Item
 opening_items = raising_items 252
 
--- IPv6 frames
-abbrev pub ip_items : List Item
-ip_items = load Ldh 12 ∷ counting PassedIpv6Icmp ∷ jump_if Jeq 0x86dd (to_end Pass) ∷ []
+-- frames other than IPv6 go over its question
+abbrev pub ip6_test_items : ℕ → List Item
+ip6_test_items over = load Ldh 12 ∷ jump_if Jne 0x86dd (targets.Label over) ∷ []
+
+-- an IPv6 packet that no rule answers
+abbrev pub ip6_last_items : List Item
+ip6_last_items = counting PassedIpv6Icmp ∷ jump (to_end Pass) ∷ []
+
+-- the question on IPv6, with the items of its rules and of the chosen records
+abbrev pub ip6_items : ℕ → List Item → List Item → List Item
+ip6_items over rules records = ip6_test_items over ++ ((rules ++ (records ++ ip6_last_items)) ++ (items.Label over ∷ []))
 
 -- all other frames
 abbrev pub last_items : List Item

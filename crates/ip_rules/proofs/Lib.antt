@@ -2,6 +2,9 @@ pub mod HeaderSeen
 pub mod Ip4Emitted
 pub mod Ip4Form
 pub mod Ip4Ruling
+pub mod Ip6Emitted
+pub mod Ip6Ruling
+pub mod Ip6Sound
 pub mod KeepaliveForm
 pub mod KeepaliveRuling
 pub mod KeepalivesEmitted

@@ -1,1 +1,2 @@
 pub mod Ip4Listing
+pub mod Ip6Listing

@@ -6,7 +6,9 @@
 #![tactic(auto)]
 
 mod ip4;
+mod ip6;
 mod keepalives;
 
 pub use ip4::emit_ip4;
+pub use ip6::emit_ip6;
 pub use keepalives::emit_keepalives;

@@ -35,14 +35,6 @@ tells-then q p xs ys away first second = record {
       (subst (λ (items : List Item). Follows (q age frame) (ys ++ rest) n frame m (on n frame items m)) (sym (append_assoc xs ys rest)) (first.tells n frame age m (ys ++ rest) ready));
 }
 
--- what items tell, they yield from any registers on
-pub yields-told : {R C : Type 0} (L : Language R C) (question : ℕ → List ℕ → R) (xs : List Item) → Tells (λ age frame. L.said (question age frame)) xs → ((l : ℕ) → l < 2 → stands l xs ≡ false)
-    → (n : ℕ) (frame : List ℕ) (age : ℕ) (m : State) → IsReady n frame age m → (r0 r1 : ℕ) → Yields L n frame m r0 r1 (question age frame) xs
-yields-told L question xs t away n frame age m ready r0 r1 = record {
-  flows = λ rest. same_base (L.said (question age frame)) rest n frame m r0 r1 _ (t.tells n frame age (with_registers r0 r1 m) rest (still_ready n frame age m r0 r1 ready));
-  away = away;
-}
-
 -- ---- labels
 
 other_label : (l k : ℕ) (b : Bool) → l < k → b ≡ false → (eqb k l) || b ≡ false
@@ -92,6 +84,13 @@ apart-below k mid to (l ∷ ls) lt fresh = let le : mid ≤ l = fresh.0 in ((λ 
 fresh-lower : (from mid to : ℕ) (ls : List ℕ) → from ≤ mid → AreFresh mid to ls → AreFresh from to ls
 fresh-lower from mid to [] le fresh = tt
 fresh-lower from mid to (l ∷ ls) le fresh = let above : mid ≤ l = fresh.0 in (omega arith, fresh.1, fresh.2, fresh-lower from mid to ls le fresh.3)
+
+-- a label that was drawn before others stands behind them
+pub fresh-over : (l to : ℕ) (ks : List ℕ) → l < to → AreFresh (l + 1) to ks → AreFresh l to (ks ++ (l ∷ []))
+fresh-over l to [] lt fresh = (omega arith, lt, tt, tt)
+fresh-over l to (k ∷ ks) lt fresh =
+    let above : l + 1 ≤ k = fresh.0 in
+    (omega arith, fresh.1, apart-append k ks (l ∷ []) fresh.2 ((λ e. absurd (omega arith)), tt), fresh-over l to ks lt fresh.3)
 
 fresh-join : (from mid to : ℕ) (ks ls : List ℕ) → from ≤ mid → mid ≤ to → AreFresh from mid ks → AreFresh mid to ls → AreFresh from to (ks ++ ls)
 fresh-join from mid to [] ls le ge f g = fresh-lower from mid to ls le g
@@ -178,4 +177,12 @@ pub part-same : (q p : ℕ → List ℕ → Said) (from to most more : ℕ) (xs 
 part-same q p from to most more xs same le x = record {
   form = fragment-of from to more xs (sound-fragment from to most xs x.form) x.form.rises x.form.fresh x.form.drawn (omega (arith, x.form.short));
   tells = record { tells = λ n frame age m rest ready. subst (λ (said : Said). Follows said rest n frame m (end_of (flow (xs ++ rest) n frame m))) (same age frame) (x.tells.tells n frame age m rest ready) };
+}
+
+-- from any registers of a machine that stands before a rule, a part yields the ruling that it tells
+pub part-yields : {R C : Type 0} (L : Language R C) (question : ℕ → List ℕ → R) (from to most : ℕ) (xs : List Item) → 2 ≤ from → IsPart (λ age frame. L.said (question age frame)) from to most xs
+    → (n : ℕ) (frame : List ℕ) (age : ℕ) (m : State) → IsReady n frame age m → (r0 r1 : ℕ) → Yields L n frame m r0 r1 (question age frame) xs
+part-yields L question from to most xs low part n frame age m ready r0 r1 = record {
+  flows = λ rest. same_base (L.said (question age frame)) rest n frame m r0 r1 _ (part.tells.tells n frame age (with_registers r0 r1 m) rest (still_ready n frame age m r0 r1 ready));
+  away = λ l lt. fresh-away from to l xs part.form.fresh (omega arith);
 }

@@ -1,0 +1,4 @@
+pub mod Exactness
+pub mod NumberWords
+pub mod DigitWords
+pub mod AddressWords

@@ -1,0 +1,14 @@
+//! The texts that go into a filter and come out of it: the words of command lines and scripts, scripts, and the lines of
+//! reports.
+//!
+//! A value has one spelling, and a word that is no spelling is refused. No call on words takes memory.
+#![tactic(auto)]
+
+mod digits;
+mod numbers;
+mod word_laws;
+mod words;
+
+pub use numbers::read_number;
+pub use word_laws::words_have_one_value;
+pub use words::{Endpoint, read_address, read_endpoint, read_ethertype, read_ip, read_mac};
