@@ -10,7 +10,7 @@ use Rattle.apf_asm.specs.Refusals.{answer}
 use Rattle.apf_asm.specs.TextReading.{text_answer}
 use Rattle.apf_run.specs.declared.fault.Input.TheVariants.{Text}
 use Rattle.apf_run.specs.declared.fault.Fault.{Fault}
-use Rattle.apf_run.specs.declared.fault.Fault.TheVariants.{Usage, BadCapture, BadText, Twice, Unknown, Backward, TooLong, CodeTooLong, OutOfMemory, Read, Write, Open}
+use Rattle.apf_run.specs.declared.fault.Fault.TheVariants.{Usage, BadCapture, BadText, Twice, Unknown, Backward, TooLong, CodeTooLong, TooLarge, OutOfMemory, Read, Write, Open}
 use Rattle.apf_run.specs.Ends.{end_place, Stops, FileFails}
 use Rattle.apf_run.specs.AsmEnds.{items_end, text_end, asm_end}
 
@@ -46,6 +46,7 @@ by_fault text end (Twice item label) late fails = absurd fails
 by_fault text end (Unknown item label) late fails = absurd fails
 by_fault text end (Backward item label) late fails = absurd fails
 by_fault text end CodeTooLong late fails = absurd fails
+by_fault text end (TooLarge need limit) late fails = absurd fails
 by_fault text end Write late fails = absurd fails
 
 pub reading_stops : (file : Option (List ℕ)) (fault : Fault) → FileFails Text (IfSome file (λ told. 1048576 < length told)) fault → Stops (asm_end file) fault

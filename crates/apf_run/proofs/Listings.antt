@@ -10,7 +10,7 @@ use Rattle.apf_disasm.specs.Printing.{line_text, written}
 use Rattle.apf_disasm.proofs.Entries.{IsGood, entries_good}
 use Rattle.apf_disasm.proofs.Parts.{written_is}
 use Rattle.apf_run.specs.declared.fault.Fault.{Fault}
-use Rattle.apf_run.specs.declared.fault.Fault.TheVariants.{Usage, BadCapture, BadText, Twice, Unknown, Backward, TooLong, CodeTooLong, OutOfMemory, Read, Write, Open}
+use Rattle.apf_run.specs.declared.fault.Fault.TheVariants.{Usage, BadCapture, BadText, Twice, Unknown, Backward, TooLong, CodeTooLong, TooLarge, OutOfMemory, Read, Write, Open}
 use Rattle.apf_run.specs.declared.fault.Input.TheVariants.{Program}
 use Rattle.apf_run.specs.Lines.{AppendsAll}
 use Rattle.apf_run.specs.Ends.{Meets, LeavesFront, WriteFails}
@@ -59,6 +59,7 @@ writing_meets told old new (Err (Unknown item label)) done fails left = absurd f
 writing_meets told old new (Err (Backward item label)) done fails left = absurd fails
 writing_meets told old new (Err (TooLong input)) done fails left = absurd fails
 writing_meets told old new (Err CodeTooLong) done fails left = absurd fails
+writing_meets told old new (Err (TooLarge need limit)) done fails left = absurd fails
 writing_meets told old new (Err (Read input)) done fails left = absurd fails
 writing_meets told old new (Err (Open input)) done fails left = absurd fails
 

@@ -14,3 +14,10 @@ piece_meets IsText lines old new (Ok x) is done fails front = inl (refl, lines, 
 piece_meets IsText lines old new (Err fault) is done fails front =
     subst (λ (r : Result (Unit {0}) Fault). Meets (Some (Ok tt)) IsText old new r) (sym fails)
     (inr (omega arith, inr (lines, is, subst (λ (r : Result (Unit {0}) Fault). LeavesFront old new lines r) fails front)))
+
+-- the same, where that is known of an end
+pub piece_meets_end : (end : Result (Unit {0}) Fault) (IsText : Result (Unit {0}) Fault → List (List ℕ) → Type 0) (lines : List (List ℕ)) (old new : Option (List ℕ)) (result : Result (Unit {0}) Fault)
+    → end ≡ Ok tt → IsText (Ok tt) lines → OnOk result (AppendsAll old new lines) → OnErr result (result ≡ Err Write) → OnErr result (LeavesFront old new lines result)
+    → Meets (Some end) IsText old new result
+piece_meets_end end IsText lines old new result e is done fails front =
+    subst (λ (x : Result (Unit {0}) Fault). Meets (Some x) IsText old new result) (sym e) (piece_meets IsText lines old new result is done fails front)

@@ -1,8 +1,9 @@
 -- What a fault before the first line leaves.
-use Rattle.std.proofs.Common.{◌≡◌, ℕ, List, [], Option, None, Some, Result, Err, refl, sym, subst, ◌∙◌, inl, inr}
+use Rattle.std.proofs.Common.{◌≡◌, ◌⊎◌, ℕ, List, [], Option, None, Some, Result, Err, refl, sym, subst, ◌∙◌, inl, inr}
 use Rattle.std.specs.Io.KnownBytes.{Keeps}
 use Rattle.std.proofs.KnownBytes.{Appends-nil}
 use Rattle.apf_run.specs.declared.fault.Fault.{Fault}
+use Rattle.apf_run.specs.declared.fault.Fault.TheVariants.{OutOfMemory}
 use Rattle.apf_run.specs.Ends.{Meets, Stops, ComesFirst, exec_output}
 use Rattle.apf_run.specs.AsmEnds.{asm_output}
 
@@ -20,6 +21,11 @@ stopped (Some end) IsText held result fault e stops none =
       | inl is ↦ inl (e ∙ sym is, [], subst (λ (r : Result (Unit {0}) Fault). IsText r []) (sym is) none, Appends-nil held)
       | inr first ↦ inr (subst (λ (r : Result (Unit {0}) Fault). ComesFirst end r) (sym e) first, inl (keeps held))
     ]
+
+-- want of memory, or the defined end
+pub ends_there : (end : Result (Unit {0}) Fault) (fault : Fault) → (fault ≡ OutOfMemory) ⊎ (end ≡ Err fault) → Stops (Some end) fault
+ends_there end fault (inl lacks) = inr (subst (λ (f : Fault). ComesFirst end (Err f)) (sym lacks) tt)
+ends_there end fault (inr is) = inl is
 
 -- with a fault no line is defined
 pub exec-no_lines : (program capture : Option (List ℕ)) (age : ℕ) (fault : Fault) → [] ≡ exec_output program capture age (Err fault)

@@ -1,9 +1,14 @@
+ghost use Rattle.std.specs.Prelude.{◌≤◌, IfOk};
+ghost use Rattle.apf_generate.specs.Sizes.{need_of};
+ghost use Rattle.size_fit.specs.Sizes.{limit_of};
+
 use crate::tests::printed_program;
 use apf_base::List;
 use apf_generate::generate;
 use apf_interp::{Verdict, interpret};
 use data_counters::{Counter, raise};
 use policy_state::{Address, Basis, Config, FilterState, Keepalive, decide};
+use size_fit::base;
 use std::alloc::Global;
 use std::process::Abort;
 use std::test::Fail;
@@ -76,7 +81,9 @@ fn basis_of(
     alloc: Global,
     number: u32,
     address: Option<Address>,
-) -> Result<Basis, Fail> {
+) -> Result<Basis, Fail>
+    ensures { IfOk result (λ basis. need_of basis ≤ limit_of basis.config) }
+{
     let deny = denied(alloc, number & 2 != 0)?;
     assert!(rt; deny.len() <= 32);
     let mut keepalives = [None; 8];
@@ -84,10 +91,10 @@ fn basis_of(
         keepalives[1] = Some(Keepalive { local: 1, ..SENT });
         keepalives[7] = Some(SENT);
     }
-    Ok(Basis {
+    let basis = Basis {
         config: Config {
             mac: [2, 0, 0, 0, 0, 1],
-            capacity: 1024,
+            capacity: 2048,
             drop_802_3: number & 1 != 0,
             deny,
         },
@@ -97,7 +104,11 @@ fn basis_of(
             address,
             keepalives,
         },
-    })
+        chosen: List::new(alloc),
+    };
+    let need = base(&basis.config, &basis.state);
+    assert!(rt; need <= 1920);
+    Ok(basis)
 }
 
 fn check_run(
@@ -142,7 +153,7 @@ fn check_state(
 ) -> Result<(), Fail> {
     let basis = basis_of(rt, alloc, number, address)?;
     let code = generate(alloc, &basis)?;
-    assert!(rt; code.len() <= 896);
+    assert!(rt; code.len() <= 1920);
     for text in &FRAMES {
         let frame = bytes_of(alloc, text)?;
         check_cuts(rt, &basis, code.as_slice(), &frame);

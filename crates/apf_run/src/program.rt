@@ -1,6 +1,6 @@
 //! `program`: a generated program alone.
 
-ghost use Rattle.std.specs.Prelude.{◌≡◌, ◌≢◌, ◌≤◌, ◌∷◌, [], string_bytes, IfOk, OnErr, Ok, Err, Some};
+ghost use Rattle.std.specs.Prelude.{◌≡◌, ◌≢◌, ◌≤◌, ◌⊎◌, ◌∷◌, [], string_bytes, IfOk, IfErr, OnOk, OnErr, Ok, Err, Some};
 ghost use Rattle.std.specs.Io.KnownBytes.{Keeps};
 ghost use Rattle.apf_base.specs.Causes.{Rose};
 ghost use Rattle.apf_run.specs.Ends.{Meets};
@@ -13,6 +13,7 @@ use crate::setting::ProgramWords;
 use apf_base::{List, OutOfMemory, Sink};
 use apf_generate::generate;
 use policy_state::{Basis, Config, FilterState};
+use size_fit::base;
 use std::alloc::Global;
 
 // What the program is made from: nothing is denied, and no keepalive was sent.
@@ -32,13 +33,22 @@ fn basis_of(alloc: Global, values: &ProgramWords) -> Basis
             address: values.address,
             keepalives: [None; 8],
         },
+        chosen: List::new(alloc),
     }
 }
 
-fn code_of(alloc: Global, values: &ProgramWords) -> Result<List<u8>, OutOfMemory>
-    ensures { IfOk result (IsCodeOf (setting_of values.now)) }
+// The code, where its base fits.
+fn code_of(alloc: Global, values: &ProgramWords) -> Result<List<u8>, Fault>
+    ensures ok { IfOk result (IsCodeOf (setting_of values.now)) }
+    ensures fits { OnOk result (program_end (setting_of values.now) ≡ Ok tt) }
+    ensures err { IfErr result (λ fault. (fault ≡ Fault.OutOfMemory) ⊎ (program_end (setting_of values.now) ≡ Err fault)) }
 {
     let basis = basis_of(alloc, values);
+    let need = base(&basis.config, &basis.state);
+    let limit = basis.config.capacity - 128;
+    if limit < need {
+        return Err(Fault::TooLarge { need, limit });
+    }
     let code = generate(alloc, &basis)?;
     Ok(code)
 }
@@ -54,11 +64,14 @@ fn code_line(alloc: Global, code: &[u8]) -> Result<String, OutOfMemory>
 }
 
 // The one line.
-fn program_line(alloc: Global, values: &ProgramWords) -> Result<String, OutOfMemory>
-    ensures { IfOk result (λ line. IsProgram (setting_of values.now) (Ok tt) (string_bytes line ∷ [])) }
+fn program_line(alloc: Global, values: &ProgramWords) -> Result<String, Fault>
+    ensures ok { IfOk result (λ line. IsProgram (setting_of values.now) (Ok tt) (string_bytes line ∷ [])) }
+    ensures fits { OnOk result (program_end (setting_of values.now) ≡ Ok tt) }
+    ensures err { IfErr result (λ fault. (fault ≡ Fault.OutOfMemory) ⊎ (program_end (setting_of values.now) ≡ Err fault)) }
 {
     let code = code_of(alloc, values)?;
-    code_line(alloc, code.as_slice())
+    let line = code_line(alloc, code.as_slice())?;
+    Ok(line)
 }
 
 /// Generates the program for a setting, and writes its code in hexadecimal.

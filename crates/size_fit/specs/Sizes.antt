@@ -7,8 +7,11 @@ use Rattle.ra_records.specs.declared.span.Span.{Span}
 use Rattle.ra_records.specs.Advert.{Advert, sections}
 
 -- 512, 9 for each denied ethertype and 80 for each keepalive
+abbrev pub base_for : ℕ → ℕ → ℕ
+base_for denied keepalives = 512 + 9 * denied + 80 * keepalives
+
 abbrev pub base : Config → FilterState → ℕ
-base config state = 512 + 9 * length config.deny + 80 * count_by is_some state.keepalives
+base config state = base_for (length config.deny) (count_by is_some state.keepalives)
 
 -- a comparison of so many bytes
 abbrev pub section_weight : Span → ℕ
@@ -19,5 +22,8 @@ abbrev pub weight : Advert → ℕ
 weight r = 29 + sum_by section_weight (sections r) + 12 * length r.lifetimes
 
 -- what a device has for a program: all but the 128 bytes of the memory
+abbrev pub limit_for : ℕ → ℕ
+limit_for capacity = capacity - 128
+
 abbrev pub limit_of : Config → ℕ
-limit_of config = config.capacity - 128
+limit_of config = limit_for config.capacity
