@@ -1,5 +1,5 @@
 -- What is assembled from the items of a whole program.
-use Rattle.std.proofs.Common.{◌≡◌, ℕ, ◌+◌, ◌*◌, ◌≤◌, List, length, Some, refl, sym, ap, subst, ◌∙◌, arith}
+use Rattle.std.proofs.Common.{◌≡◌, ℕ, ◌+◌, ◌≤◌, List, length, Some, refl, sym, ap, subst, ◌∙◌, arith}
 use Rattle.std.specs.Prelude.{All}
 use Rattle.apf_asm.specs.declared.item.AsmError.{AsmError}
 use Rattle.apf_asm.specs.declared.item.Item.{Item}
@@ -14,9 +14,9 @@ use Rattle.apf_generate.specs.Sizes.{need_of}
 use Rattle.size_fit.specs.Sizes.{limit_of}
 use Rattle.apf_generate.proofs.AnyProgram.{forms, few_items, length-bytes, means_of, not_refused}
 
-module _ (basis : Basis) (xs : List Item) (most : basis.config.capacity ≤ 8192) (p : IsProgram basis xs) (fits : need_of basis ≤ limit_of basis.config) where
+module _ (basis : Basis) (xs : List Item) (few : length basis.config.deny ≤ 32) (most : basis.config.capacity ≤ 8192) (p : IsProgram basis xs) (fits : need_of basis ≤ limit_of basis.config) where
   small : most_asked basis ≤ 65000
-  small = omega (arith, most, fits)
+  small = omega (arith, few, most, fits)
 
   pub items_formed : All IsItemForm xs
   items_formed = subst (λ (ys : List Item). All IsItemForm ys) (sym p.whole) (forms basis p.holds.to _ p.questions p.holds.part small)

@@ -37,30 +37,30 @@ regrouped f g i h k = simp append_assoc
 chained : (f g i h k x0 x1 x2 x3 x4 x5 : List Item) → x0 ≡ [] → x1 ≡ x0 ++ f → x2 ≡ x1 ++ g → x3 ≡ x2 ++ i → x4 ≡ x3 ++ h → x5 ≡ x4 ++ k → x5 ≡ (((([] ++ f) ++ g) ++ i) ++ h) ++ k
 chained f g i h k x0 x1 x2 x3 x4 x5 none p q r s t = cc
 
-pub joined : (basis : Basis) (a b c to : ℕ) (x0 x1 x2 x3 x4 x5 k : List Item) → x0 ≡ []
-    → Emits (λ age frame. said_of (link basis frame)) (20 + 9 * length basis.config.deny) 2 a x0 x1
-    → Emits (λ age frame. said_of (arp basis frame)) 112 a b x1 x2
-    → Emits (λ age frame. said_of (ip4 basis frame)) (160 + 80 * count_by is_some basis.state.keepalives) b c x2 x3
-    → AddsIp6 basis c to x3 x4
+pub joined : (basis : Basis) (two three four to : ℕ) (x0 x1 x2 x3 x4 x5 k : List Item) → x0 ≡ []
+    → Emits (λ age frame. said_of (link basis frame)) (20 + 9 * length basis.config.deny) 2 two x0 x1
+    → Emits (λ age frame. said_of (arp basis frame)) 112 two three x1 x2
+    → Emits (λ age frame. said_of (ip4 basis frame)) (160 + 80 * count_by is_some basis.state.keepalives) three four x2 x3
+    → AddsIp6 basis four to x3 x4
     → k ≡ last_items → x5 ≡ x4 ++ k → length basis.chosen ≤ 1000 → HoldsQuestions basis x5
-joined basis a b c to x0 x1 x2 x3 x4 x5 k none first second third fourth q s records =
-    let rises : 2 ≤ a = first.part.form.rises in
-    let more : a ≤ b = second.part.form.rises in
-    let further : b ≤ c = third.part.form.rises in
-    let link_size = 20 + 9 * length basis.config.deny in
-    let ip4_size = 160 + 80 * count_by is_some basis.state.keepalives in
-    let ip6_size = 142 + weights basis.chosen in
-    let from_ip6 = part-then _ _ c to to ip6_size 26 fourth.question last_items (omega arith) fourth.part (others_part to) in
-    let from_ip4 = part-then _ _ b c to ip4_size (ip6_size + 26) third.fragment (fourth.question ++ last_items) (omega arith) third.part from_ip6 in
-    let from_arp = part-then _ _ a b to 112 (ip4_size + (ip6_size + 26)) second.fragment (third.fragment ++ (fourth.question ++ last_items)) rises second.part from_ip4 in
-    let all = part-then _ _ 2 a to link_size (112 + (ip4_size + (ip6_size + 26))) first.fragment (second.fragment ++ (third.fragment ++ (fourth.question ++ last_items))) (omega arith) first.part from_arp in
-    let parts : x5 ≡ first.fragment ++ (second.fragment ++ (third.fragment ++ (fourth.question ++ k))) =
-    chained first.fragment second.fragment third.fragment fourth.question k x0 x1 x2 x3 x4 x5 none first.appended second.appended third.appended fourth.appended s
-    ∙ regrouped first.fragment second.fragment third.fragment fourth.question k in
-    let same : x5 ≡ first.fragment ++ (second.fragment ++ (third.fragment ++ (fourth.question ++ last_items))) = rw q at parts in
+joined basis two three four to x0 x1 x2 x3 x4 x5 k none first second third fifth q s records =
+    let from_two : 2 ≤ two = first.part.form.rises in
+    let from_three : two ≤ three = second.part.form.rises in
+    let from_four : three ≤ four = third.part.form.rises in
+    let n = length basis.config.deny in
+    let a = 160 + 80 * count_by is_some basis.state.keepalives in
+    let w = weights basis.chosen in
+    let from_ip6 = part-then _ _ four to to (142 + w) 26 fifth.question last_items (omega arith) fifth.part (others_part to) in
+    let from_ip4 = part-then _ _ three four to a (142 + w + 26) third.fragment (fifth.question ++ last_items) (omega arith) third.part from_ip6 in
+    let from_arp = part-then _ _ two three to 112 (a + (142 + w + 26)) second.fragment (third.fragment ++ (fifth.question ++ last_items)) from_two second.part from_ip4 in
+    let all = part-then _ _ 2 two to (20 + 9 * n) (112 + (a + (142 + w + 26))) first.fragment (second.fragment ++ (third.fragment ++ (fifth.question ++ last_items))) (omega arith) first.part from_arp in
+    let parts : x5 ≡ first.fragment ++ (second.fragment ++ (third.fragment ++ (fifth.question ++ k))) =
+    chained first.fragment second.fragment third.fragment fifth.question k x0 x1 x2 x3 x4 x5 none first.appended second.appended third.appended fifth.appended s
+    ∙ regrouped first.fragment second.fragment third.fragment fifth.question k in
+    let same : x5 ≡ first.fragment ++ (second.fragment ++ (third.fragment ++ (fifth.question ++ last_items))) = rw q at parts in
     record {
       to = to;
-      few = omega (arith, first.few, second.few, third.few, fourth.few);
+      few = omega (arith, first.few, second.few, third.few, fifth.few);
       part = subst (λ (xs : List Item). IsPart (asked basis) 2 to (most_asked basis) xs) (sym same)
           (part-same _ (asked basis) 2 to _ (most_asked basis) _ (asked_said basis) (omega arith) all);
     }

@@ -1,26 +1,26 @@
 -- The items for all other frames say what their question answers.
-use Rattle.std.proofs.Common.{◌≡◌, ℕ, Bool, true, false, cond, not, eqb, List, [], Option, Some, None, refl, arith, lit<, lit≤}
+use Rattle.std.proofs.Common.{◌≡◌, ℕ, Bool, true, false, cond, not, List, [], Option, Some, None, refl, arith, lit<, lit≤}
 use Rattle.std.specs.Prelude.{bytes_eq}
-use Rattle.apf_coding.specs.declared.instruction.Op.TheVariants.{Ldh, Li, Jeq}
+use Rattle.apf_coding.specs.declared.instruction.Op.TheVariants.{Li}
 use Rattle.apf_coding.specs.declared.machine.Verdict.TheVariants.{Pass, Drop}
 use Rattle.data_counters.specs.declared.counter.Counter.TheVariants.{PassedNonIpUnicast, DroppedEthBroadcast}
 use Rattle.policy_state.specs.declared.ruling.Ruling.{Ruling}
-use Rattle.policy_state.specs.declared.ruling.Ruling.TheVariants.{Says, Silent}
-use Rattle.policy_state.specs.Asking.{reading, when}
+use Rattle.policy_state.specs.declared.ruling.Ruling.TheVariants.{Says}
+use Rattle.policy_state.specs.Asking.{reading}
 use Rattle.policy_state.specs.Ethernet.{destination, broadcast}
 use Rattle.policy_state.specs.Policy.{others}
 use Rattle.policy_state.proofs.FieldsSeen.{bytes_seen}
 use Rattle.rule_items.specs.Fragment.{IsPart, labels}
 use Rattle.rule_items.specs.Saying.{Tells}
-use Rattle.rule_items.proofs.Forms.{IsSound, bytes_fit, sound-nil, sound-byte, sound-if_end, sound-jump_end, sound-unless_end}
+use Rattle.rule_items.proofs.Forms.{IsSound, bytes_fit, sound-nil, sound-byte, sound-jump_end, sound-unless_end}
 use Rattle.rule_items.proofs.Parts.{fragment-of}
-use Rattle.rule_items.proofs.Rules.{done, restated, counts, places, reads_half, answers, answers_if, answers_unless, told}
+use Rattle.rule_items.proofs.Rules.{done, restated, counts, places, answers, answers_unless, told}
 use Rattle.rule_items.specs.Rulings.{said_of}
 use Rattle.rule_items.proofs.Rulings.{rulings}
 use Rattle.rule_items.proofs.Rulings.{sound-counting}
 use Rattle.apf_generate.specs.Listing.{last_items}
 
--- ---- the ruling as the items come to it is that of the table
+-- ---- the rulings as the items come to them are those of the table
 
 abbrev last_of : Option (List ℕ) → Ruling
 last_of mac = reading mac (λ there. cond (not (bytes_eq there broadcast)) (Says Pass PassedNonIpUnicast) (Says Drop DroppedEthBroadcast))
@@ -33,7 +33,7 @@ last_same : (mac : Option (List ℕ)) → last_of mac ≡ reading mac (λ there.
 last_same None = refl
 last_same (Some there) = cond-not (bytes_eq there broadcast) _ _
 
--- ---- the items come to it
+-- ---- the items come to them
 
 others_tell : Tells (λ age frame. said_of (others frame)) last_items
 others_tell = told rulings (λ age frame. others frame) _ (λ n frame age m ready.

@@ -1,5 +1,5 @@
 -- Items that answer the policy's questions.
-use Rattle.std.specs.Prelude.{◌≡◌, ℕ, ◌+◌, ◌-◌, ◌*◌, ◌≤◌, List, ◌++◌, length, map}
+use Rattle.std.specs.Prelude.{◌≡◌, ℕ, ◌+◌, ◌*◌, ◌≤◌, List, ◌++◌, length, map, count_by, is_some}
 use Rattle.apf_asm.specs.declared.item.Item.{Item}
 use Rattle.policy_state.specs.declared.basis.Basis.{Basis}
 use Rattle.policy_state.specs.declared.basis.Chosen.{Chosen}
@@ -10,7 +10,7 @@ use Rattle.rule_items.specs.Fragment.{IsPart}
 use Rattle.rule_items.specs.Saying.{Said}
 use Rattle.rule_items.specs.Rulings.{said_of}
 use Rattle.apf_generate.specs.Listing.{between_ends}
-use Rattle.apf_generate.specs.Sizes.{weights, need_of}
+use Rattle.apf_generate.specs.Sizes.{weights}
 
 -- what the policy says of a frame of more than 14 bytes
 abbrev pub asked : Basis → ℕ → List ℕ → Said
@@ -30,9 +30,9 @@ pub record AddsIp6 (basis : Basis) (from to : ℕ) (old new : List Item) : Type 
   pub part : IsPart (λ age frame. said_of (ip6 basis age frame)) from to (142 + weights basis.chosen) question
   pub few : to ≤ from + 65 + 64 * length basis.chosen
 
--- The most bytes of the items that answer the questions. The opening and the two ends have 28.
+-- The most bytes of the items that answer the questions. The opening and the two ends have 28 more.
 abbrev pub most_asked : Basis → ℕ
-most_asked basis = need_of basis - 28
+most_asked basis = 484 + 9 * length basis.config.deny + 80 * count_by is_some basis.state.keepalives + weights basis.chosen
 
 -- items that answer all questions, with their labels from 2 on
 pub record HoldsQuestions (basis : Basis) (xs : List Item) : Type 0 where

@@ -7,7 +7,7 @@ use Rattle.policy_state.specs.Ip4.{keepalive_answers}
 use Rattle.policy_state.specs.Policy.{ip4}
 use Rattle.rule_items.specs.Fragment.{Emits, IsPart}
 use Rattle.rule_items.specs.Rulings.{said_of}
-use Rattle.rule_items.proofs.Parts.{fresh-above, fresh-away, part-same}
+use Rattle.rule_items.proofs.Parts.{fresh-above, part-same}
 use Rattle.ip_rules.specs.Ip4Listing.{ip4_items, IsMac, IsInRange}
 use Rattle.ip_rules.proofs.Ip4Form.{packet_fragment, ip4_fragment}
 use Rattle.ip_rules.proofs.Ip4Ruling.{packet_items, ip4_tells}
@@ -26,7 +26,7 @@ ip4_emitted basis next label none keepalives old new empty le made is_mac fits e
     let apart = fresh-above next (label + 1) (label + 1) (packet_items basis label keepalives) (packet_fragment basis next label most keepalives x.form is_mac fits).fresh (omega arith) in
     let whole : IsPart (λ age frame. said_of (ip4 basis frame)) next (label + 1 + 1) (11 + (100 + (most + 26))) (ip4_items basis label keepalives) = record {
       form = ip4_fragment basis next label most keepalives x.form is_mac fits;
-      tells = ip4_tells basis label keepalives (omega arith) is_mac x.tells (λ l lt. fresh-away next label l keepalives x.form.fresh (omega arith)) apart;
+      tells = ip4_tells basis next label most keepalives le is_mac x apart;
     } in
     let two : label + 1 + 1 ≡ label + 2 = omega arith in
     record {

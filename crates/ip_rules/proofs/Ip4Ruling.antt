@@ -1,5 +1,5 @@
 -- The items for IPv4 say what their question answers.
-use Rattle.std.proofs.Common.{◌≡◌, ℕ, ◌+◌, ◌<◌, ◌≤◌, Bool, true, false, cond, not, eqb, ltb, List, [], ◌∷◌, ◌++◌, get_or, Option, Some, None, refl, sym, ap, ◌∙◌, arith, lit<, lit≤}
+use Rattle.std.proofs.Common.{◌≡◌, ℕ, ◌+◌, ◌≤◌, Bool, true, false, cond, not, eqb, ltb, List, [], ◌∷◌, ◌++◌, get_or, Option, Some, None, refl, sym, ap, ◌∙◌, arith, lit<, lit≤}
 use Rattle.std.specs.Prelude.{bit_and, bytes_eq}
 use Rattle.apf_coding.specs.declared.instruction.Op.TheVariants.{Ldh, Ldhx, Add, Jeq, Jne, Jset}
 use Rattle.apf_coding.specs.declared.machine.Verdict.{Verdict}
@@ -25,9 +25,10 @@ use Rattle.policy_state.specs.Policy.{ip4}
 use Rattle.policy_state.proofs.AskingLaws.{otherwise-assoc, otherwise-when, reading-cond, reading-over, reading-when, when-cond}
 use Rattle.policy_state.proofs.FieldsSeen.{number_seen, bytes_seen}
 use Rattle.rule_items.specs.Building.{fixed, counting, jump, jump_if, jump_unless, load, to_end}
+use Rattle.rule_items.specs.Fragment.{IsPart}
 use Rattle.rule_items.specs.Rulings.{said_of}
 use Rattle.rule_items.specs.Saying.{Tells}
-use Rattle.rule_items.proofs.Parts.{yields-told}
+use Rattle.rule_items.proofs.Parts.{part-yields}
 use Rattle.rule_items.proofs.Rules.{Yields, frame_bytes, done, restated, counts, places, adds, masks, recalls_0, recalls_1, reads_byte, reads_half, reads_half_at, reads_word, answers, answers_if, answers_unless, labelled, leaves_if, leaves_unless, skips_if, then_on, told}
 use Rattle.rule_items.proofs.Rulings.{rulings}
 use Rattle.ip_rules.specs.Ip4Listing.{header_into, dhcp_items, net_items, destination_items, filtered_items, last_items, ip4_items, IsMac}
@@ -230,17 +231,19 @@ module _ (n : ℕ) (frame : List ℕ) (m : State) where
 abbrev pub packet_items : Basis → ℕ → List Item → List Item
 packet_items basis label keepalives = filtered_items basis.state.multicast label basis.config.mac basis.state.address ++ (keepalives ++ last_items basis.state.multicast)
 
-pub ip4_tells : (basis : Basis) (label : ℕ) (keepalives : List Item) → 2 ≤ label → (basis.state.multicast ≡ true → IsMac basis.config.mac)
-    → Tells (λ age frame. said_of (keepalive_answers basis frame)) keepalives → ((l : ℕ) → l < 2 → stands l keepalives ≡ false)
+pub ip4_tells : (basis : Basis) (from label most : ℕ) (keepalives : List Item) → 2 ≤ from → (basis.state.multicast ≡ true → IsMac basis.config.mac)
+    → IsPart (λ age frame. said_of (keepalive_answers basis frame)) from label most keepalives
     → stands (label + 1) (packet_items basis label keepalives) ≡ false
     → Tells (λ age frame. said_of (ip4 basis frame)) (ip4_items basis label keepalives)
-ip4_tells basis label keepalives le is_mac tell away apart = told rulings (λ age frame. ip4 basis frame) _ (λ n frame age m ready.
+ip4_tells basis from label most keepalives le is_mac x apart =
+    let up : from ≤ label = x.form.rises in
+    told rulings (λ age frame. ip4 basis frame) _ (λ n frame age m ready.
     restated rulings n frame m m.r0 m.r1 _ _ _ (ap (λ (a : Ruling). reading (ethertype frame) (λ e. cond (not (eqb e 0x800)) Silent (otherwise a Silent))) (packet_same basis frame) ∙ reading-over (ethertype frame) (λ e. eqb e 0x800) (ip4_lines basis frame))
     (reads_half rulings n frame m m.r0 m.r1 1 12 _ _ (ethertype frame) (number_seen frame 12 2) (λ e.
     skips_if rulings n frame m Jne 0x800 (label + 1) e m.r1 _ Silent (packet_items basis label keepalives) [] refl (omega arith) apart
     (then_on rulings n frame m e m.r1 _ _ _ (keepalives ++ last_items basis.state.multicast)
-    (filtered_yields n frame m basis.state.multicast label basis.config.mac basis.state.address e m.r1 (header_slot n frame age m ready) le is_mac)
+    (filtered_yields n frame m basis.state.multicast label basis.config.mac basis.state.address e m.r1 (header_slot n frame age m ready) (omega arith) is_mac)
     (λ p0 p1. then_on rulings n frame m p0 p1 _ _ keepalives (last_items basis.state.multicast)
-    (yields-told rulings (λ age frame. keepalive_answers basis frame) keepalives tell away n frame age m ready p0 p1)
+    (part-yields rulings (λ age frame. keepalive_answers basis frame) from label most keepalives le x n frame age m ready p0 p1)
     (last_yields n frame m basis.state.multicast)))
     (λ q0 q1. done rulings n frame m q0 q1))))

@@ -17,7 +17,7 @@ use Rattle.rule_items.specs.Fragment.{Emits, IsPart, labels}
 use Rattle.rule_items.specs.Rulings.{said_of}
 use Rattle.rule_items.specs.Saying.{Said, Tells}
 use Rattle.rule_items.proofs.Forms.{sound-nil}
-use Rattle.rule_items.proofs.Parts.{fragment-of, fresh-away, fresh-above, part-then, part-same, yields-told}
+use Rattle.rule_items.proofs.Parts.{fragment-of, fresh-above, part-then, part-same, part-yields}
 use Rattle.rule_items.proofs.Rules.{done, restated, reads_byte, skips_if, told}
 use Rattle.rule_items.proofs.Rulings.{rulings, said-otherwise}
 use Rattle.ip_rules.specs.Ip4Listing.{answer_items, slots_items, segment_items}
@@ -63,7 +63,7 @@ segment_tells slots next to most answers le x =
     restated rulings n frame m m.r0 m.r1 _ _ _ (reading-over (protocol frame) (λ p. eqb p 6) (slots_ruling slots frame))
     (reads_byte rulings n frame m m.r0 m.r1 1 23 _ _ (protocol frame) (number_seen frame 23 1) (λ p.
     skips_if rulings n frame m Jne 6 to p m.r1 (slots_ruling slots frame) Silent answers [] refl (omega arith) (fresh-above next to to answers x.form.fresh (omega arith))
-    (yields-told rulings (λ age frame. slots_ruling slots frame) answers x.tells (λ l lt. fresh-away next to l answers x.form.fresh (omega arith)) n frame age m ready p m.r1)
+    (part-yields rulings (λ age frame. slots_ruling slots frame) next to most answers le x n frame age m ready p m.r1)
     (λ q0 q1. done rulings n frame m q0 q1))))
 
 -- where there is a keepalive

@@ -1,12 +1,11 @@
 -- Each answer has a counter of its verdict.
-use Rattle.std.proofs.Common.{◌≡◌, ◌≢◌, ℕ, ◌≤◌, Bool, true, false, not, eqb, List, [], ◌∷◌, length, Option, Some, None, refl, subst, lit≤, sym, ap, ◌∙◌}
-use Rattle.std.proofs.lemmas.Bool.{ltb-false, eqb-true}
-use Rattle.std.specs.Prelude.{nat_lt, nat_le, map, ◌&&◌, bytes_eq, if◌then◌else◌, ◌+◌, ◌/◌, bit_and, is_some, [], ◌∷◌}
+use Rattle.std.proofs.Common.{◌≡◌, ◌≢◌, ℕ, ◌≤◌, Bool, true, false, not, eqb, List, [], ◌∷◌, length, Option, Some, None, refl, sym, ap, subst, ◌∙◌, lit≤}
+use Rattle.std.proofs.lemmas.Bool.{eqb-true, ltb-false}
+use Rattle.std.specs.Prelude.{◌+◌, ◌/◌, bit_and, is_some, nat_lt, nat_le, map, ◌&&◌, bytes_eq, if◌then◌else◌}
 use Rattle.apf_coding.specs.declared.machine.Verdict.{Verdict}
 use Rattle.apf_coding.specs.declared.machine.Verdict.TheVariants.{Pass, Drop}
 use Rattle.data_counters.specs.declared.counter.Counter.{Counter}
-use Rattle.data_counters.specs.declared.counter.Counter.TheVariants.{PassedArp, PassedArpNonIpv4, PassedArpUnknown, PassedArpUnicastReply, PassedIpv4, PassedIpv6NonIcmp, PassedIpv6UnicastNonIcmp, PassedIpv6Icmp, PassedNonIpUnicast, Dropped8023Frame, DroppedEthertypeDenied, DroppedEthBroadcast, DroppedArpReplySpaNoHost, DroppedGarpReply, DroppedArpOtherHost, DroppedRa, DroppedIpv6RouterSolicitation, DroppedIpv6MulticastNa, DroppedIpv6Multicast, PassedDhcp, PassedIpv4Unicast, DroppedIpv4L2Broadcast, DroppedIpv4BroadcastAddr, DroppedIpv4BroadcastNet, DroppedIpv4Multicast, DroppedIpv4KeepaliveAck}
-use Rattle.std.specs.List.{list_any}
+use Rattle.data_counters.specs.declared.counter.Counter.TheVariants.{PassedDhcp, PassedIpv4Unicast, DroppedIpv4L2Broadcast, DroppedIpv4BroadcastAddr, DroppedIpv4BroadcastNet, DroppedIpv4Multicast, DroppedIpv4KeepaliveAck, PassedArp, PassedArpNonIpv4, PassedArpUnknown, PassedArpUnicastReply, PassedIpv4, PassedIpv6NonIcmp, PassedIpv6UnicastNonIcmp, PassedIpv6Icmp, PassedNonIpUnicast, Dropped8023Frame, DroppedEthertypeDenied, DroppedEthBroadcast, DroppedArpReplySpaNoHost, DroppedGarpReply, DroppedArpOtherHost, DroppedRa, DroppedIpv6RouterSolicitation, DroppedIpv6MulticastNa, DroppedIpv6Multicast}
 use Rattle.data_counters.specs.Counters.{number_of}
 use Rattle.policy_state.specs.declared.basis.Basis.{Basis}
 use Rattle.policy_state.specs.declared.basis.Chosen.{Chosen}
@@ -16,12 +15,12 @@ use Rattle.policy_state.specs.declared.ruling.Ruling.TheVariants as rulings
 use Rattle.policy_state.specs.Asking.{reading, when, otherwise, first_of}
 use Rattle.frame_views.specs.Fields.{field, part}
 use Rattle.policy_state.specs.Ethernet.{destination, ethertype, broadcast}
-use Rattle.ra_records.specs.Advert.{same}
-use Rattle.std.specs.List.{list_all}
-use Rattle.policy_state.specs.Records.{lasts, advertised_again}
 use Rattle.frame_views.specs.Packets.{header_length}
 use Rattle.policy_state.specs.declared.state.Keepalive.{Keepalive}
 use Rattle.policy_state.specs.Ip4.{protocol, destination_address, fragment, dhcp, ip4_multicast, ip4_broadcast, net_broadcast_of, net_broadcast, ends_of, opening_of, slot_answer, keepalive_answers, ip4_to_this_host, ip4_lines}
+use Rattle.ra_records.specs.Advert.{same}
+use Rattle.std.specs.List.{list_all, list_any}
+use Rattle.policy_state.specs.Records.{lasts, advertised_again}
 use Rattle.policy_state.specs.Policy.{is_denied, frames_802_3, denied_types, link, for_other_addresses, unknown_operations, replies_of_no_host, unicast_replies, arp_opening, arp_operation, arp_sender, arp_target, gratuitous_arp, arp_for_other_hosts, arp, ip4, ip6, others, questions}
 use Rattle.policy_state.specs.Ip6.{next_header, icmp_type, by_destination, echo_requests, ip6_multicast, ip6_other_than_icmp, router_solicitations, all_nodes, advertisements_to_all_nodes, ip6_header_lines}
 use Rattle.policy_state.specs.Whole.{Short, Says, fate_of, policy}

@@ -1,6 +1,6 @@
 //! Laws over the policy, each the contract of an empty function.
 
-ghost use Rattle.std.specs.Prelude.{◌≡◌, ◌≢◌, ◌<◌, ◌≤◌, ℕ, List, length, count_by, is_some, Option, Some};
+ghost use Rattle.std.specs.Prelude.{◌≡◌, ◌≢◌, ◌<◌, ◌≤◌, ℕ, List, length, Option, Some};
 ghost use Rattle.apf_coding.specs.declared.machine.Verdict.TheVariants.{Pass, Drop};
 ghost use Rattle.data_counters.specs.declared.counter.Counter.{Counter};
 ghost use Rattle.data_counters.specs.Counters.{number_of};
@@ -10,8 +10,6 @@ ghost use Rattle.policy_state.specs.Asking.{first_of};
 ghost use Rattle.policy_state.specs.Ethernet.{ethertype};
 ghost use Rattle.policy_state.specs.Policy.{ip4, questions};
 ghost use Rattle.policy_state.specs.Whole.{Short, Says, policy};
-
-use crate::{FilterState, Keepalive};
 
 /// The questions end with one that always answers. So a frame of more than 14 bytes has a counter unless it lacks a field.
 pub fn questions_are_answered()
@@ -29,15 +27,4 @@ pub fn counters_tell_verdicts()
 pub fn ip4_answers_its_frames()
     ensures answers { (basis : Basis) (frame : List ℕ) → ethertype frame ≡ Some 0x800 → ip4 basis frame ≢ Silent }
     ensures silent { (basis : Basis) (frame : List ℕ) (e : ℕ) → ethertype frame ≡ Some e → e ≢ 0x800 → ip4 basis frame ≡ Silent }
-{}
-
-/// There are at most eight keepalives. Beside the laws this speaks of a state in hand, since it is the array's length that says so.
-pub fn keepalives_are_few(state: &FilterState)
-    ensures { count_by is_some state.now.keepalives ≤ 8 }
-{
-    few_slots(&state.keepalives);
-}
-
-fn few_slots(_slots: &[Option<Keepalive>; 8])
-    ensures { count_by is_some _slots.now ≤ 8 }
 {}

@@ -35,14 +35,6 @@ tells-then q p xs ys away first second = record {
       (subst (λ (items : List Item). Follows (q age frame) (ys ++ rest) n frame m (on n frame items m)) (sym (append_assoc xs ys rest)) (first.tells n frame age m (ys ++ rest) ready));
 }
 
--- what items tell, they yield from any registers on
-pub yields-told : {R C : Type 0} (L : Language R C) (question : ℕ → List ℕ → R) (xs : List Item) → Tells (λ age frame. L.said (question age frame)) xs → ((l : ℕ) → l < 2 → stands l xs ≡ false)
-    → (n : ℕ) (frame : List ℕ) (age : ℕ) (m : State) → IsReady n frame age m → (r0 r1 : ℕ) → Yields L n frame m r0 r1 (question age frame) xs
-yields-told L question xs t away n frame age m ready r0 r1 = record {
-  flows = λ rest. same_base (L.said (question age frame)) rest n frame m r0 r1 _ (t.tells n frame age (with_registers r0 r1 m) rest (still_ready n frame age m r0 r1 ready));
-  away = away;
-}
-
 -- ---- labels
 
 other_label : (l k : ℕ) (b : Bool) → l < k → b ≡ false → (eqb k l) || b ≡ false

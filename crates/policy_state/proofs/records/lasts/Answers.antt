@@ -1,5 +1,5 @@
 -- The lifetime is in the frame.
-use Rattle.std.proofs.Common.{◌≡◌, ℕ, Option, None, Some, sym, ap, ◌∙◌}
+use Rattle.std.proofs.Common.{◌≡◌, ℕ, sym, ap, ◌∙◌}
 use Rattle.std.specs.Prelude.{nat_le}
 use Rattle.ra_records.specs.Advert.{number_in}
 use Rattle.ra_records.proofs.Least.{number_seen}

@@ -1,4 +1,4 @@
-use Rattle.std.proofs.Common.{◌≡◌, List, map, ap, ◌∙◌}
+use Rattle.std.proofs.Common.{List, map, ap, ◌∙◌}
 use Rattle.policy_state.specs.declared.basis.Chosen.{Chosen}
 use Rattle.policy_state.specs.Asking.{first_of}
 use Rattle.policy_state.specs.Records.{advertised_again}
