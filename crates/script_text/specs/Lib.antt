@@ -1,2 +1,5 @@
+pub mod ScriptLines
+pub mod ScriptReading
+pub mod Scripts
 pub mod WordReading
 pub mod Words

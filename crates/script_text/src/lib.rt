@@ -5,10 +5,18 @@
 #![tactic(auto)]
 
 mod digits;
+mod ethertypes;
+mod events;
+mod head;
+mod line_words;
+mod lines;
 mod numbers;
+mod script;
+mod script_error;
 mod word_laws;
 mod words;
 
 pub use numbers::read_number;
+pub use script_error::{ScriptError, ScriptKind};
 pub use word_laws::words_have_one_value;
 pub use words::{Endpoint, read_address, read_endpoint, read_ethertype, read_ip, read_mac};
