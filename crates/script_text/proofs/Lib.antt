@@ -5,3 +5,7 @@ pub mod AddressWords
 pub mod LineSplitting
 pub mod DenyLists
 pub mod Telling
+pub mod LineWords
+pub mod EventWords
+pub mod Faults
+pub mod Grammar

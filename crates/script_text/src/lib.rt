@@ -13,10 +13,12 @@ mod lines;
 mod numbers;
 mod script;
 mod script_error;
+mod script_laws;
 mod word_laws;
 mod words;
 
 pub use numbers::read_number;
 pub use script_error::{ScriptError, ScriptKind};
+pub use script_laws::{scripts_are_answered, texts_have_one_answer};
 pub use word_laws::words_have_one_value;
 pub use words::{Endpoint, read_address, read_endpoint, read_ethertype, read_ip, read_mac};
