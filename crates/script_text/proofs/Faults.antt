@@ -1,21 +1,24 @@
 -- What the grammar says of a text is what the function that computes says.
-use Rattle.std.proofs.Common.{◌≡◌, ℕ, zero, suc, ◌+◌, ◌<◌, ◌≤◌, Bool, true, false, List, [], ◌∷◌, ◌++◌, length, Option, Some, None, Result, Ok, Err, refl, sym, ap, subst, ◌∙◌, append_assoc, arith, inl, inr}
-use Rattle.std.specs.Prelude.{map, All, ◌⊎◌}
+use Rattle.std.proofs.Common.{◌≡◌, ℕ, zero, suc, ◌+◌, ◌<◌, ◌≤◌, Bool, true, false, List, [], ◌∷◌, ◌++◌, length, Option, Some, None, Result, Ok, Err, refl, sym, ap, subst, ◌∙◌, append_assoc, arith, rules, inl, inr}
+use Rattle.std.specs.Prelude.{map, All, ◌⊎◌, IfOk}
 use Rattle.std.specs.List.{AllByRecursion}
+use Rattle.std.proofs.Math.Bridge.{le_prop}
 use Rattle.std.proofs.lemmas.List.{append-nil, map-append}
 use Rattle.std.proofs.lemmas.List.Elements.{All-from_recursion, recursion_from_All}
+use Rattle.policy_state.specs.declared.config.Config.{Config}
+use Rattle.policy_state.specs.declared.basis.Script.{Script}
 use Rattle.policy_state.specs.declared.basis.Timed.{Timed}
 use Rattle.script_text.specs.declared.script_error.ScriptError.{ScriptError}
 use Rattle.script_text.specs.declared.script_error.ScriptError.TheVariants.{Bad, OutOfMemory}
 use Rattle.script_text.specs.declared.script_error.ScriptKind.{ScriptKind}
 use Rattle.script_text.specs.declared.script_error.ScriptKind.TheVariants.{Form, Order, End}
-use Rattle.script_text.specs.ScriptLines.{Contents, version_line, mac_line, capacity_line, start_line, drop_line, deny_line, event_line, first_lines, lines_saying, IsMac, IsCapacity, IsDeny, IsWord, IsEvent, lines_of, kept_lines}
-use Rattle.script_text.specs.Scripts.{IsSound, Says, IsOfForm, BeginsScript, FaultsAt, EndsEarly, Refuses}
-use Rattle.script_text.specs.ScriptReading.{◌>>>◌, first, first_six, event_answer, with_front, events_from, contents_from, script_answer, version_read, mac_read, capacity_read, start_read, drop_read, deny_read}
+use Rattle.script_text.specs.ScriptLines.{Contents, contents_of, version_line, mac_line, capacity_line, start_line, drop_line, deny_line, event_line, first_lines, lines_saying, IsMac, IsCapacity, IsDeny, IsWord, IsEvent, lines_of, kept_lines}
+use Rattle.script_text.specs.Scripts.{IsSound, Says, IsScriptText, IsOfForm, BeginsScript, FaultsAt, EndsEarly, Refuses}
+use Rattle.script_text.specs.ScriptReading.{◌>>>◌, first, first_six, event_answer, with_front, events_from, contents_from, script_answer, Tells, version_read, mac_read, capacity_read, start_read, drop_read, deny_read}
 use Rattle.script_text.proofs.Exactness.{exact-none_spelled, exact-refused}
 use Rattle.script_text.proofs.DigitWords.{bytes-cons}
 use Rattle.script_text.proofs.LineWords.{version_exact, mac_line_exact, capacity_line_exact, start_line_exact, drop_line_exact, deny_line_exact}
-use Rattle.script_text.proofs.Grammar.{Kept, texts, Chain, last_time, chain_in_order, in_order_chain, chain_front, all_front, late_is, late_again, bind_okay, bind_failed, ok_inj, cons_head, cons_tail, first_is, first_fails, event_form, event_order, EventsAre, events_is, events_on, EventsFail, events_fail, Head, head, sound_head, six_on, six_is, read_version, read_mac, read_capacity, read_start, read_dropped, read_deny}
+use Rattle.script_text.proofs.Grammar.{Kept, texts, Chain, last_time, chain_in_order, in_order_chain, chain_front, all_front, late_is, late_again, bind_okay, bind_failed, ok_inj, err_inj, cons_head, cons_tail, first_is, first_fails, event_form, event_order, EventsAre, events_is, events_on, EventsFail, events_fail, Head, head, sound_head, six_on, six_is, read_version, read_mac, read_capacity, read_start, read_dropped, read_deny}
 
 -- ---- scripts
 
@@ -296,11 +299,14 @@ events_stand text err f =
         })
     ]
 
-pub refused_found : (text : List ℕ) (n : ℕ) (k : ScriptKind) → script_answer text ≡ Err (Bad n k) → Refuses text n k
-refused_found text n k e = elim (contents_fail (length (lines_of text) + 1) (kept_lines text) (Bad n k) e) [
-  | inl f ↦ head_stands text (Bad n k) f
-  | inr f ↦ events_stand text (Bad n k) f
+answer_stands : (text : List ℕ) (err : ScriptError) → script_answer text ≡ Err err → Stands text err
+answer_stands text err e = elim (contents_fail (length (lines_of text) + 1) (kept_lines text) err e) [
+  | inl f ↦ head_stands text err f
+  | inr f ↦ events_stand text err f
 ]
+
+pub refused_found : (text : List ℕ) (n : ℕ) (k : ScriptKind) → script_answer text ≡ Err (Bad n k) → Refuses text n k
+refused_found text n k e = answer_stands text (Bad n k) e
 
 -- ---- faults, again
 
@@ -464,3 +470,87 @@ refused_again text n Order r =
 refused_again text n End r =
     let at_end : ℕ = length (lines_of text) + 1 in
     end_again r.begun.script at_end (kept_lines text) r.begun.later r.begun.sound r.begun.lines_are r.few ∙ ap (λ (k : ℕ). Err (Bad k End)) (sym r.number_is)
+
+-- ---- one answer
+
+either_cases : (text : List ℕ) (answer : Result Contents ScriptError) → script_answer text ≡ answer → ((c : Contents) × Says text c) ⊎ ((n : ℕ) × (k : ScriptKind) × Refuses text n k)
+either_cases text (Ok c) e = inl (c, says_found text c e)
+either_cases text (Err (Bad n k)) e = inr (n, k, refused_found text n k e)
+either_cases text (Err OutOfMemory) e = absurd (answer_stands text OutOfMemory e)
+
+pub either : (text : List ℕ) → ((c : Contents) × Says text c) ⊎ ((n : ℕ) × (k : ScriptKind) × Refuses text n k)
+either text = either_cases text (script_answer text) refl
+
+pub not_both : (text : List ℕ) (c : Contents) (n : ℕ) (k : ScriptKind) → Says text c → Refuses text n k → ⊥
+not_both text c n k s r = let ok = says_again text c s in let err = refused_again text n k r in cc
+
+pub one_script : (text : List ℕ) (a b : Contents) → Says text a → Says text b → a ≡ b
+one_script text a b s t = ok_inj {A = Contents} {E = ScriptError} a b (sym (says_again text a s) ∙ says_again text b t)
+
+pub one_fault : (text : List ℕ) (n m : ℕ) (k j : ScriptKind) → Refuses text n k → Refuses text m j → (n ≡ m) × (k ≡ j)
+one_fault text n m k j r q = bad_parts n m k j (err_inj {A = Contents} {E = ScriptError} (Bad n k) (Bad m j) (sym (refused_again text n k r) ∙ refused_again text m j q))
+
+-- ---- what the reader answers
+
+-- a configuration by its fields and its bounds
+config_of : (mac : List ℕ) (drop_802_3 : Bool) (capacity : ℕ) → 128 ≤ capacity → capacity ≤ 8192 → (deny : List ℕ) → length deny ≤ 32 → Config
+config_of mac drop_802_3 capacity least most deny few = record { mac = mac; capacity = capacity; drop_802_3 = drop_802_3; deny = deny; least = least; most = most; few = few }
+
+-- bounds hold in one way
+same_bounds : (mac : List ℕ) (dropped : Bool) (capacity : ℕ) (l m : 128 ≤ capacity) (n o : capacity ≤ 8192) (deny : List ℕ) (f g : length deny ≤ 32) → config_of mac dropped capacity l n deny f ≡ config_of mac dropped capacity m o deny g
+same_bounds mac dropped capacity l m n o deny f g =
+    ap (λ (x : 128 ≤ capacity). config_of mac dropped capacity x n deny f) (le_prop l m)
+    ∙ ap (λ (x : capacity ≤ 8192). config_of mac dropped capacity m x deny f) (le_prop n o)
+    ∙ ap (λ (x : length deny ≤ 32). config_of mac dropped capacity m o deny x) (le_prop f g)
+
+same_deny : (mac : List ℕ) (dropped : Bool) (capacity : ℕ) (l m : 128 ≤ capacity) (n o : capacity ≤ 8192) (deny other : List ℕ) (f : length deny ≤ 32) → deny ≡ other → (g : length other ≤ 32) → config_of mac dropped capacity l n deny f ≡ config_of mac dropped capacity m o other g
+same_deny mac dropped capacity l m n o deny other f e =
+    subst (λ (x : List ℕ). (g : length x ≤ 32) → config_of mac dropped capacity l n deny f ≡ config_of mac dropped capacity m o x g) e
+    (λ g. same_bounds mac dropped capacity l m n o deny f g)
+
+same_capacity : (mac : List ℕ) (dropped : Bool) (a b : ℕ) (l : 128 ≤ a) (n : a ≤ 8192) (deny other : List ℕ) (f : length deny ≤ 32) (g : length other ≤ 32) → deny ≡ other → a ≡ b → (m : 128 ≤ b) (o : b ≤ 8192) → config_of mac dropped a l n deny f ≡ config_of mac dropped b m o other g
+same_capacity mac dropped a b l n deny other f g d e =
+    subst (λ (x : ℕ). (m : 128 ≤ x) (o : x ≤ 8192) → config_of mac dropped a l n deny f ≡ config_of mac dropped x m o other g) e
+    (λ m o. same_deny mac dropped a l m n o deny other f d g)
+
+same_config : (a b : Config) → a.mac ≡ b.mac → a.capacity ≡ b.capacity → a.drop_802_3 ≡ b.drop_802_3 → a.deny ≡ b.deny → a ≡ b
+unfolding config_of
+same_config a b m c d e =
+    ap (λ (x : List ℕ). config_of x a.drop_802_3 a.capacity a.least a.most a.deny a.few) m
+    ∙ ap (λ (x : Bool). config_of b.mac x a.capacity a.least a.most a.deny a.few) d
+    ∙ same_capacity b.mac b.drop_802_3 a.capacity b.capacity a.least a.most a.deny b.deny a.few b.few e c b.least b.most
+
+script_of : Config → ℕ → List Timed → Script
+script_of config start events = record { config = config; start = start; events = events }
+
+same_script : (a b : Script) → contents_of a ≡ contents_of b → a ≡ b
+unfolding script_of
+same_script a b e =
+    let config = same_config a.config b.config (ap (λ (c : Contents). c.mac) e) (ap (λ (c : Contents). c.capacity) e) (ap (λ (c : Contents). c.drop_802_3) e) (ap (λ (c : Contents). c.deny) e) in
+    ap (λ (x : Config). script_of x a.start a.events) config
+    ∙ ap (λ (x : ℕ). script_of b.config x a.events) (ap (λ (c : Contents). c.start) e)
+    ∙ ap (λ (x : List Timed). script_of b.config b.start x) (ap (λ (c : Contents). c.events) e)
+
+pub told_found : (text : List ℕ) (r : Result Script ScriptError) → Tells contents_of r (script_answer text) → IfOk r (λ script. IsScriptText text script)
+told_found text (Ok script) t = says_found text (contents_of script) t
+told_found text (Err e) t = tt
+
+pub told_only : (text : List ℕ) (r : Result Script ScriptError) → Tells contents_of r (script_answer text) → (script : Script) → IsScriptText text script → (r ≡ Ok script) ⊎ (r ≡ Err OutOfMemory)
+told_only text (Ok other) t script s = inl (ap Ok (same_script other script (ok_inj {A = Contents} {E = ScriptError} (contents_of other) (contents_of script) (sym t ∙ says_again text (contents_of script) s))))
+told_only text (Err (Bad n k)) t script s = absurd (not_both text (contents_of script) n k s (refused_found text n k t))
+told_only text (Err OutOfMemory) t script s = inr refl
+
+pub told_named : (text : List ℕ) (r : Result Script ScriptError) → Tells contents_of r (script_answer text) → (n : ℕ) (k : ScriptKind) → r ≡ Err (Bad n k) → Refuses text n k
+told_named text (Ok script) t n k e = absurd cc
+told_named text (Err (Bad m j)) t n k e =
+    let same = bad_parts m n j k (err_inj {A = Script} {E = ScriptError} (Bad m j) (Bad n k) e) in
+    subst (λ (p : ℕ × ScriptKind). Refuses text p.0 p.1) (pair_path m n j k same.0 same.1) (refused_found text m j t)
+  where
+    pair_path : (m n : ℕ) (j k : ScriptKind) → m ≡ n → j ≡ k → ◌≡◌ {A = ℕ × ScriptKind} (m, j) (n, k)
+    pair_path m n j k p q = rw (p, q) refl
+told_named text (Err OutOfMemory) t n k e = absurd (let same = err_inj {A = Script} {E = ScriptError} OutOfMemory (Bad n k) e in cc)
+
+pub told_refused : (text : List ℕ) (r : Result Script ScriptError) → Tells contents_of r (script_answer text) → (n : ℕ) (k : ScriptKind) → Refuses text n k → (r ≡ Err (Bad n k)) ⊎ (r ≡ Err OutOfMemory)
+told_refused text (Ok script) t n k q = absurd (not_both text (contents_of script) n k (says_found text (contents_of script) t) q)
+told_refused text (Err (Bad m j)) t n k q = inl (ap Err (err_inj {A = Contents} {E = ScriptError} (Bad m j) (Bad n k) (sym t ∙ refused_again text n k q)))
+told_refused text (Err OutOfMemory) t n k q = inr refl

@@ -104,7 +104,7 @@ bind_failed {A} (Err other) k err e = inl (let same : other ≡ err = cc in ap E
 pub ok_inj : {A : Type 0} {E : Type 0} (x y : A) → ◌≡◌ {A = Result A E} (Ok x) (Ok y) → x ≡ y
 ok_inj x y e = cc
 
-err_inj : {A : Type 0} {E : Type 0} (x y : E) → ◌≡◌ {A = Result A E} (Err x) (Err y) → x ≡ y
+pub err_inj : {A : Type 0} {E : Type 0} (x y : E) → ◌≡◌ {A = Result A E} (Err x) (Err y) → x ≡ y
 err_inj x y e = cc
 
 pub cons_head : {A : Type 0} (x y : A) (xs ys : List A) → x ∷ xs ≡ y ∷ ys → x ≡ y

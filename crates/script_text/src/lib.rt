@@ -18,6 +18,7 @@ mod word_laws;
 mod words;
 
 pub use numbers::read_number;
+pub use script::read_script;
 pub use script_error::{ScriptError, ScriptKind};
 pub use script_laws::{scripts_are_answered, texts_have_one_answer};
 pub use word_laws::words_have_one_value;

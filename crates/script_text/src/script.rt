@@ -2,7 +2,7 @@
 
 ghost use Rattle.std.specs.Prelude.{◌≡◌, ◌≤◌, ◌⊎◌, ℕ, length, IfOk, Ok, Err};
 ghost use Rattle.policy_state.specs.declared.basis.Script.{Script as ScriptValue};
-ghost use Rattle.script_text.specs.declared.script_error.ScriptKind.{ScriptKind};
+ghost use Rattle.script_text.specs.declared.script_error.ScriptKind.{ScriptKind as KindValue};
 ghost use Rattle.script_text.specs.ScriptLines.{contents_of};
 ghost use Rattle.script_text.specs.Scripts.{IsScriptText, Refuses};
 ghost use Rattle.script_text.specs.ScriptReading.{left, event_answer, events_from, script_answer, Tells};
@@ -57,4 +57,23 @@ fn read_lines(alloc: Global, text: &[u8]) -> Result<Script, ScriptError>
         start,
         events,
     })
+}
+
+/// The script of a text, or the first fault in the order of its lines.
+///
+/// A script has lines that a line feed ends; the last may lack it. Lines that are empty or begin with `#` are skipped and
+/// counted. The first six other lines name the format, the MAC, the capacity, the start, whether 802.3 frames are dropped
+/// and the denied ethertypes. Each further line is an event. The grammar is in `docs/SCRIPT.md`.
+pub fn read_script(alloc: Global, text: &[u8]) -> Result<Script, ScriptError>
+    requires { length text.now ≤ 1048576 }
+    // What is answered is what the text says.
+    ensures found { IfOk result (λ script. IsScriptText text.now script) }
+    ensures only { (script : ScriptValue) → IsScriptText text.now script → (result ≡ Ok script) ⊎ (result ≡ Err ScriptError.OutOfMemory) }
+    // The fault that is named is the first.
+    ensures named { (line : ℕ) (kind : KindValue) → result ≡ Err (ScriptError.Bad line kind) → Refuses text.now line kind }
+    ensures refused { (line : ℕ) (kind : KindValue) → Refuses text.now line kind → (result ≡ Err (ScriptError.Bad line kind)) ⊎ (result ≡ Err ScriptError.OutOfMemory) }
+    // By a function that computes.
+    ensures exact { Tells contents_of result (script_answer text.now) }
+{
+    read_lines(alloc, text)
 }
