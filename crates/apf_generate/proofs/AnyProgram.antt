@@ -98,7 +98,7 @@ module _ (basis : Basis) (to most : ℕ) (xs : List Item) (part : IsPart (asked 
   unfolding stands
   not_refused = none_refused (between_ends xs) [] 0 leads (subst (λ (ls : List ℕ). AllApart ls) (sym labels-are) (all_apart-ends to (labels xs) part.form.fresh)) (λ l there. refl)
 
-  pub few_items : to ≤ 1000 → length (between_ends xs) ≤ 1048576
+  pub few_items : to ≤ 100000 → length (between_ends xs) ≤ 1048576
   few_items le = omega (arith, length-items xs, part.form.short, part.form.drawn, length-append xs end_items)
 
   abbrev pub bytes : List ℕ

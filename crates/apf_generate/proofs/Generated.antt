@@ -10,35 +10,36 @@ use Rattle.policy_state.specs.declared.basis.Basis.{Basis}
 use Rattle.apf_generate.specs.Listing.{between_ends}
 use Rattle.apf_generate.specs.Means.{Means}
 use Rattle.apf_generate.specs.Program.{IsProgram}
-use Rattle.apf_generate.specs.Sizes.{base_of}
+use Rattle.apf_generate.specs.Sizes.{weights, need_of}
+use Rattle.size_fit.specs.Sizes.{limit_of}
 use Rattle.apf_generate.proofs.AnyProgram.{forms, few_items, length-bytes, means_of, not_refused}
 
-small : (n : ℕ) → n ≤ 32 → 182 + 9 * n ≤ 65000
-small n le = omega arith
+module _ (basis : Basis) (xs : List Item) (few : length basis.config.deny ≤ 32) (most : basis.config.capacity ≤ 8192) (p : IsProgram basis xs) (fits : need_of basis ≤ limit_of basis.config) where
+  small : 484 + 9 * length basis.config.deny + weights basis.chosen ≤ 65000
+  small = omega (arith, few, most, fits)
 
-module _ (basis : Basis) (xs : List Item) (few : length basis.config.deny ≤ 32) (p : IsProgram basis xs) where
   pub items_formed : All IsItemForm xs
-  items_formed = subst (λ (ys : List Item). All IsItemForm ys) (sym p.whole) (forms basis p.holds.to _ p.questions p.holds.part (small _ few))
+  items_formed = subst (λ (ys : List Item). All IsItemForm ys) (sym p.whole) (forms basis p.holds.to _ p.questions p.holds.part small)
 
   pub items_few : length xs ≤ 1048576
-  items_few = subst (λ (ys : List Item). length ys ≤ 1048576) (sym p.whole) (few_items basis p.holds.to _ p.questions p.holds.part (small _ few) p.holds.few)
+  items_few = subst (λ (ys : List Item). length ys ≤ 1048576) (sym p.whole) (few_items basis p.holds.to _ p.questions p.holds.part small p.holds.few)
 
   code_is : (code : List ℕ) → code ≡ (layout xs).bytes → code ≡ (layout (between_ends p.questions)).bytes
   code_is code e = e ∙ ap (λ (ys : List Item). (layout ys).bytes) p.whole
 
   pub code_means : (code : List ℕ) → code ≡ (layout xs).bytes → Means code basis
-  code_means code e = subst (λ (c : List ℕ). Means c basis) (sym (code_is code e)) (means_of basis p.holds.to _ p.questions p.holds.part (small _ few))
+  code_means code e = subst (λ (c : List ℕ). Means c basis) (sym (code_is code e)) (means_of basis p.holds.to _ p.questions p.holds.part small)
 
-  length-code : (code : List ℕ) → code ≡ (layout xs).bytes → length code ≤ 210 + 9 * length basis.config.deny
-  length-code code e = omega (arith, ap length (code_is code e), length-bytes basis p.holds.to _ p.questions p.holds.part (small _ few))
+  length-code : (code : List ℕ) → code ≡ (layout xs).bytes → length code ≤ 512 + 9 * length basis.config.deny + weights basis.chosen
+  length-code code e = omega (arith, ap length (code_is code e), length-bytes basis p.holds.to _ p.questions p.holds.part small)
 
-  pub code_short : (code : List ℕ) → code ≡ (layout xs).bytes → length code ≤ base_of basis
+  pub code_short : (code : List ℕ) → code ≡ (layout xs).bytes → length code ≤ need_of basis
   code_short code e = omega (arith, length-code code e)
 
   -- no label is refused, and the code isn't too long
   pub none_refused : (error : AsmError) → refusal xs ≡ Some error → ⊥
   none_refused error e =
-      let ok = not_refused basis p.holds.to _ p.questions p.holds.part (small _ few) in
+      let ok = not_refused basis p.holds.to _ p.questions p.holds.part small in
       let same : refusal xs ≡ refusal (between_ends p.questions) = ap refusal p.whole in
       cc
 

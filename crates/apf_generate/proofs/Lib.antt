@@ -1,8 +1,12 @@
 pub mod AnyProgram
+pub mod Chosen
 pub mod Ends
 pub mod Generated
+pub mod Ip6Question
 pub mod Joined
 pub mod OneWay
 pub mod Others
+pub mod RaForm
+pub mod RaRuling
 pub mod Raising
 pub mod WordsSeen

@@ -2,3 +2,4 @@ pub mod Means
 pub mod Listing
 pub mod Program
 pub mod Sizes
+pub mod RaListing

@@ -1,14 +1,13 @@
 -- The items of a whole program, but for those of its rules.
 use Rattle.std.specs.Prelude.{ℕ, List, [], ◌∷◌, ◌++◌}
-use Rattle.apf_coding.specs.declared.instruction.Op.TheVariants.{Ldh, Lddw, Stdw, Add, Jeq}
+use Rattle.apf_coding.specs.declared.instruction.Op.TheVariants.{Ldh, Lddw, Stdw, Add, Jeq, Jne}
 use Rattle.apf_coding.specs.declared.machine.Verdict.TheVariants.{Pass, Drop}
 use Rattle.apf_asm.specs.declared.item.Item.{Item}
 use Rattle.apf_asm.specs.declared.item.Item.TheVariants as items
 use Rattle.apf_asm.specs.declared.item.Target.TheVariants as targets
 use Rattle.data_counters.specs.declared.counter.Counter.TheVariants.{PassedIpv4, PassedIpv6Icmp, PassedNonIpUnicast, DroppedEthBroadcast}
 use Rattle.policy_state.specs.Ethernet.{broadcast}
-use Rattle.rule_items.specs.Building.{to_end, fixed, load, place, jump_if, jump, jump_unless}
-use Rattle.arp_rules.specs.Listing.{counting}
+use Rattle.rule_items.specs.Building.{to_end, fixed, load, place, counting, jump_if, jump, jump_unless}
 
 -- one more in the word at a distance from R1; a distance from 128 on is one of minus 256 more
 abbrev pub raising_items : ℕ → List Item
@@ -18,12 +17,21 @@ raising_items distance = fixed Lddw 0 1 distance ∷ fixed Add 0 1 1 ∷ fixed S
 abbrev pub opening_items : List Item
 opening_items = raising_items 252
 
--- IPv4 and IPv6 frames
+-- IPv4 frames
 abbrev pub ip_items : List Item
-ip_items =
-    load Ldh 12 ∷ counting PassedIpv4 ∷ jump_if Jeq 0x800 (to_end Pass)
-    ∷ counting PassedIpv6Icmp ∷ jump_if Jeq 0x86dd (to_end Pass)
-    ∷ []
+ip_items = load Ldh 12 ∷ counting PassedIpv4 ∷ jump_if Jeq 0x800 (to_end Pass) ∷ []
+
+-- frames other than IPv6 go over its question
+abbrev pub ip6_test_items : ℕ → List Item
+ip6_test_items over = load Ldh 12 ∷ jump_if Jne 0x86dd (targets.Label over) ∷ []
+
+-- an IPv6 packet that no rule answers
+abbrev pub ip6_last_items : List Item
+ip6_last_items = counting PassedIpv6Icmp ∷ jump (to_end Pass) ∷ []
+
+-- the question on IPv6, with the items of its rules and of the chosen records
+abbrev pub ip6_items : ℕ → List Item → List Item → List Item
+ip6_items over rules records = ip6_test_items over ++ ((rules ++ (records ++ ip6_last_items)) ++ (items.Label over ∷ []))
 
 -- all other frames
 abbrev pub last_items : List Item

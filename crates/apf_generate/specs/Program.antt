@@ -1,23 +1,40 @@
 -- Items that answer the policy's questions.
-use Rattle.std.specs.Prelude.{◌≡◌, ℕ, ◌+◌, ◌*◌, ◌≤◌, List, length}
+use Rattle.std.specs.Prelude.{◌≡◌, ℕ, ◌+◌, ◌*◌, ◌≤◌, List, ◌++◌, length, map}
 use Rattle.apf_asm.specs.declared.item.Item.{Item}
 use Rattle.policy_state.specs.declared.basis.Basis.{Basis}
+use Rattle.policy_state.specs.declared.basis.Chosen.{Chosen}
 use Rattle.policy_state.specs.Asking.{first_of}
-use Rattle.policy_state.specs.Policy.{questions}
+use Rattle.policy_state.specs.Policy.{ip6, questions}
+use Rattle.policy_state.specs.Records.{advertised_again}
 use Rattle.rule_items.specs.Fragment.{IsPart}
 use Rattle.rule_items.specs.Saying.{Said}
-use Rattle.arp_rules.specs.Rulings.{said_of}
+use Rattle.rule_items.specs.Rulings.{said_of}
 use Rattle.apf_generate.specs.Listing.{between_ends}
+use Rattle.apf_generate.specs.Sizes.{weights}
 
 -- what the policy says of a frame of more than 14 bytes
 abbrev pub asked : Basis → ℕ → List ℕ → Said
 asked basis age frame = said_of (first_of (questions basis age frame))
 
+-- A call that raises the next label from one number to another adds the fragments of these records to a list.
+pub record AddsRecords (chosen : List Chosen) (from to : ℕ) (old new : List Item) : Type 0 where
+  pub rules : List Item
+  pub appended : new ≡ old ++ rules
+  pub part : IsPart (λ age frame. said_of (first_of (map (λ one. advertised_again one age frame) chosen))) from to (weights chosen) rules
+  pub few : to ≤ from + 64 * length chosen
+
+-- A call that raises the next label from one number to another adds items that answer the question on IPv6 to a list.
+pub record AddsIp6 (basis : Basis) (from to : ℕ) (old new : List Item) : Type 0 where
+  pub question : List Item
+  pub appended : new ≡ old ++ question
+  pub part : IsPart (λ age frame. said_of (ip6 basis age frame)) from to (142 + weights basis.chosen) question
+  pub few : to ≤ from + 65 + 64 * length basis.chosen
+
 -- items that answer all questions, with their labels from 2 on
 pub record HoldsQuestions (basis : Basis) (xs : List Item) : Type 0 where
   pub to : ℕ
-  pub few : to ≤ 1000
-  pub part : IsPart (asked basis) 2 to (182 + 9 * length basis.config.deny) xs
+  pub few : to ≤ 100000
+  pub part : IsPart (asked basis) 2 to (484 + 9 * length basis.config.deny + weights basis.chosen) xs
 
 -- the items of a whole program
 pub record IsProgram (basis : Basis) (xs : List Item) : Type 0 where

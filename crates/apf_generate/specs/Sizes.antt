@@ -1,7 +1,14 @@
 -- The most bytes that a program for a basis has.
-use Rattle.std.specs.Prelude.{ℕ, ◌+◌, ◌*◌, length, count_by, is_some}
+use Rattle.std.specs.Prelude.{ℕ, ◌+◌, List}
+use Rattle.std.specs.List.{sum_by}
 use Rattle.policy_state.specs.declared.basis.Basis.{Basis}
+use Rattle.policy_state.specs.declared.basis.Chosen.{Chosen}
+use Rattle.size_fit.specs.Sizes.{base, weight}
 
--- 512, 9 for each denied ethertype and 80 for each keepalive
-abbrev pub base_of : Basis → ℕ
-base_of basis = 512 + 9 * length basis.config.deny + 80 * count_by is_some basis.state.keepalives
+-- those of all chosen records
+abbrev pub weights : List Chosen → ℕ
+weights chosen = sum_by (λ one. weight one.advert) chosen
+
+-- its base, and the weights of its chosen records
+abbrev pub need_of : Basis → ℕ
+need_of basis = base basis.config basis.state + weights basis.chosen

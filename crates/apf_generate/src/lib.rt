@@ -5,7 +5,9 @@
 #![tactic(auto)]
 
 mod program;
+mod ra;
 #[cfg(test)]
 mod tests;
 
 pub use program::generate;
+pub use ra::emit_ra;

@@ -1,3 +1,5 @@
+mod ip6;
+
 use crate::generate;
 use apf_base::List;
 use apf_coding::Verdict;
@@ -60,6 +62,7 @@ fn programs_decide_as_the_policy(rt: HostRuntime) -> Result<(), Fail> {
             }),
             keepalives: [None; 8],
         },
+        chosen: List::new(rt.alloc()),
     };
     let code = generate(rt.alloc(), &basis)?;
     assert!(rt; code.len() <= 512);

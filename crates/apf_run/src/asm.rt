@@ -12,7 +12,7 @@ ghost use Rattle.apf_run.specs.Ends.{Meets, Stops, LeavesFront};
 ghost use Rattle.apf_run.specs.AsmEnds.{asm_end, asm_output, text_end, items_end, code_lines};
 
 use crate::fault::{Fault, Input};
-use crate::files::{read_file, write_line};
+use crate::files::{read_file, write_piece};
 use apf_asm::{AsmError, Item, TextError, assemble, read_text};
 use apf_base::{List, Shelf, Sink, Source};
 use std::alloc::Global;
@@ -83,17 +83,6 @@ fn read_code<H: Shelf>(alloc: Global, name: &str, shelf: &mut H) -> Result<List<
     assembled(alloc, text.as_slice())
 }
 
-// Writes bytes as one piece, which is the whole text.
-fn write_code<O: Sink>(out: &mut O, bytes: &[u8]) -> Result<(), Fault>
-    ensures ok { OnOk result (AppendsAll (O.held out.old) (O.held out.new) (bytes.now ∷ [])) }
-    ensures err { OnErr result (result ≡ Err Fault.Write) }
-    ensures front { OnErr result (LeavesFront (O.held out.old) (O.held out.new) (bytes.now ∷ []) result) }
-    ensures write { result ≡ Err Fault.Write → Rose (O.faults out.old) (O.faults out.new) }
-    ensures faults { O.faults out.old ≤ O.faults out.new }
-{
-    write_line(out, bytes)
-}
-
 /// Assembles a text, and writes the bytes of the program as one piece.
 #[tactic(auto, unfolding(crate::specs::Ends::Meets))]
 pub fn asm<H: Shelf, O: Sink>(
@@ -117,5 +106,5 @@ pub fn asm<H: Shelf, O: Sink>(
     ensures files { H.file shelf.new ≡ H.file shelf.old }
 {
     let code = read_code(alloc, text, shelf)?;
-    write_code(out, code.as_slice())
+    write_piece(out, code.as_slice())
 }

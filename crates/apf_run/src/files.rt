@@ -1,10 +1,11 @@
 //! Whole files in, whole lines out.
 
-ghost use Rattle.std.specs.Prelude.{◌≡◌, ◌≤◌, ◌<◌, length, IfSome, IfOk, IfErr, OnOk, OnErr};
+ghost use Rattle.std.specs.Prelude.{◌≡◌, ◌≤◌, ◌<◌, ◌∷◌, [], length, IfSome, IfOk, IfErr, OnOk, OnErr};
 ghost use Rattle.std.specs.Io.KnownBytes.{Appends, IsAtEnd};
 ghost use Rattle.apf_base.specs.Causes.{Rose};
 ghost use Rattle.apf_base.specs.Streams.{AppendsFront};
-ghost use Rattle.apf_run.specs.Ends.{FileFails};
+ghost use Rattle.apf_run.specs.Ends.{FileFails, LeavesFront};
+ghost use Rattle.apf_run.specs.Lines.{AppendsAll};
 
 use crate::fault::{Fault, Input};
 use apf_base::{List, ReadAllError, Shelf, Sink, Source, read_all, write_all};
@@ -53,4 +54,15 @@ pub fn write_line<O: Sink>(out: &mut O, line: &[u8]) -> Result<(), Fault>
         Ok(()) => Ok(()),
         Err(_) => Err(Fault::Write),
     }
+}
+
+/// Writes a piece, which is the whole text.
+pub fn write_piece<O: Sink>(out: &mut O, bytes: &[u8]) -> Result<(), Fault>
+    ensures ok { OnOk result (AppendsAll (O.held out.old) (O.held out.new) (bytes.now ∷ [])) }
+    ensures err { OnErr result (result ≡ Err Fault.Write) }
+    ensures front { OnErr result (LeavesFront (O.held out.old) (O.held out.new) (bytes.now ∷ []) result) }
+    ensures write { result ≡ Err Fault.Write → Rose (O.faults out.old) (O.faults out.new) }
+    ensures faults { O.faults out.old ≤ O.faults out.new }
+{
+    write_line(out, bytes)
 }

@@ -23,8 +23,8 @@ use Rattle.policy_state.proofs.FieldsSeen.{number_seen, bytes_seen}
 use Rattle.rule_items.specs.Saying.{Tells}
 use Rattle.rule_items.proofs.Rules.{Yields, done, restated, counts, places, reads_half, reads_word, answers, answers_if, answers_unless, skips_if, told}
 use Rattle.arp_rules.specs.Listing.{reply_items, target_items, operation_items, packet_items, arp_items}
-use Rattle.arp_rules.specs.Rulings.{said_of}
-use Rattle.arp_rules.proofs.Language.{rulings}
+use Rattle.rule_items.specs.Rulings.{said_of}
+use Rattle.rule_items.proofs.Rulings.{rulings}
 
 -- ---- the rulings as the items come to them
 

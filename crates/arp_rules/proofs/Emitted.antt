@@ -6,7 +6,7 @@ use Rattle.policy_state.specs.declared.basis.Basis.{Basis}
 use Rattle.policy_state.specs.Policy.{link, arp}
 use Rattle.rule_items.specs.Fragment.{Emits, IsFragment}
 use Rattle.arp_rules.specs.Listing.{link_items, arp_items, IsInRange}
-use Rattle.arp_rules.specs.Rulings.{said_of}
+use Rattle.rule_items.specs.Rulings.{said_of}
 use Rattle.arp_rules.proofs.LinkRuling.{link_tells}
 use Rattle.arp_rules.proofs.ArpRuling.{arp_tells}
 use Rattle.arp_rules.proofs.Sound.{link_fragment, arp_fragment}

@@ -17,8 +17,8 @@ use Rattle.policy_state.proofs.FieldsSeen.{number_seen}
 use Rattle.rule_items.specs.Saying.{counted, Tells}
 use Rattle.rule_items.proofs.Rules.{Yields, done, restated, counts, reads_half, answers_if, told}
 use Rattle.arp_rules.specs.Listing.{length_items, deny_items, denied_items, link_items}
-use Rattle.arp_rules.specs.Rulings.{said_of}
-use Rattle.arp_rules.proofs.Language.{rulings}
+use Rattle.rule_items.specs.Rulings.{said_of}
+use Rattle.rule_items.proofs.Rulings.{rulings}
 
 abbrev too_short : Ruling
 too_short = Says Drop Dropped8023Frame

@@ -8,22 +8,17 @@ use Rattle.apf_coding.specs.declared.machine.Verdict.TheVariants.{Pass, Drop}
 use Rattle.apf_asm.specs.declared.item.Item.{Item}
 use Rattle.apf_asm.specs.declared.item.Item.TheVariants as items
 use Rattle.apf_asm.specs.Layout.{wide_size, wide_length}
-use Rattle.data_counters.specs.declared.counter.Counter.{Counter}
 use Rattle.data_counters.specs.declared.counter.Counter.TheVariants.{PassedArp, PassedArpNonIpv4, PassedArpUnknown, PassedArpUnicastReply, Dropped8023Frame, DroppedEthertypeDenied, DroppedArpReplySpaNoHost, DroppedGarpReply, DroppedArpOtherHost}
-use Rattle.data_counters.specs.Counters.{number_of}
 use Rattle.policy_state.specs.declared.basis.Basis.{Basis}
 use Rattle.policy_state.specs.declared.state.Address.{Address}
 use Rattle.policy_state.specs.Ethernet.{broadcast}
 use Rattle.policy_state.specs.Policy.{arp_opening}
-use Rattle.rule_items.specs.Building.{to_end, load, jump_if}
+use Rattle.rule_items.specs.Building.{to_end, load, counting, jump_if}
 use Rattle.rule_items.specs.Fragment.{AreFresh, IsFragment, labels}
-use Rattle.rule_items.proofs.Forms.{IsSound, stands-here, bytes_fit, sound-nil, sound-append, sound-byte, sound-count, sound-if_end, sound-if_label, sound-jump_end, sound-unless_end, sound-label}
+use Rattle.rule_items.proofs.Forms.{IsSound, stands-here, bytes_fit, sound-nil, sound-append, sound-byte, sound-if_end, sound-if_label, sound-jump_end, sound-unless_end, sound-label}
 use Rattle.rule_items.proofs.Parts.{fragment-of}
-use Rattle.arp_rules.specs.Listing.{counting, length_items, deny_items, denied_items, link_items, reply_items, target_items, packet_items, arp_items, IsInRange}
-use Rattle.arp_rules.proofs.Language.{has_word}
-
-pub sound-counting : (c : Counter) (xs : List Item) → IsSound xs → IsSound (counting c ∷ xs)
-sound-counting c xs s = sound-count (number_of c) xs (has_word c) s
+use Rattle.arp_rules.specs.Listing.{length_items, deny_items, denied_items, link_items, reply_items, target_items, packet_items, arp_items, IsInRange}
+use Rattle.rule_items.proofs.Rulings.{sound-counting}
 
 -- ---- the Ethernet header
 

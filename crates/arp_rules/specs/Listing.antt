@@ -5,18 +5,12 @@ use Rattle.apf_coding.specs.declared.machine.Verdict.TheVariants.{Pass, Drop}
 use Rattle.apf_asm.specs.declared.item.Item.{Item}
 use Rattle.apf_asm.specs.declared.item.Item.TheVariants as items
 use Rattle.apf_asm.specs.declared.item.Target.TheVariants as targets
-use Rattle.data_counters.specs.declared.counter.Counter.{Counter}
 use Rattle.data_counters.specs.declared.counter.Counter.TheVariants.{PassedArp, PassedArpNonIpv4, PassedArpUnknown, PassedArpUnicastReply, Dropped8023Frame, DroppedEthertypeDenied, DroppedArpReplySpaNoHost, DroppedGarpReply, DroppedArpOtherHost}
-use Rattle.data_counters.specs.Counters.{number_of}
 use Rattle.policy_state.specs.declared.basis.Basis.{Basis}
 use Rattle.policy_state.specs.declared.state.Address.{Address}
 use Rattle.policy_state.specs.Ethernet.{broadcast}
 use Rattle.policy_state.specs.Policy.{arp_opening}
-use Rattle.rule_items.specs.Building.{to_end, load, place, count, jump_if, jump, jump_unless}
-
--- R1 says which counter is to be raised
-abbrev pub counting : Counter → Item
-counting counter = count (number_of counter)
+use Rattle.rule_items.specs.Building.{to_end, load, place, counting, jump_if, jump, jump_unless}
 
 -- ---- the Ethernet header, with the ethertype in R0
 

@@ -4,15 +4,14 @@ ghost use Rattle.std.specs.Prelude.{◌≡◌, ◌+◌, ◌≤◌, IfOk, OnOk, O
 ghost use Rattle.policy_state.specs.Policy.{arp};
 ghost use Rattle.rule_items.specs.Fragment.{Emits};
 ghost use Rattle.arp_rules.specs.Listing.{reply_items, target_items, packet_items, arp_items, IsInRange};
-ghost use Rattle.arp_rules.specs.Rulings.{said_of};
+ghost use Rattle.rule_items.specs.Rulings.{said_of};
 
-use crate::counting::counting;
 use apf_asm::{Item, Target};
 use apf_base::{List, OutOfMemory};
 use apf_coding::{Op, Verdict};
 use data_counters::Counter;
 use policy_state::{Address, Basis};
-use rule_items::{jump, jump_if, jump_unless, load, place, to_end};
+use rule_items::{counting, jump, jump_if, jump_unless, load, place, to_end};
 use std::alloc::Global;
 
 /// The broadcast MAC.

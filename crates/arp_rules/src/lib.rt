@@ -6,7 +6,6 @@
 #![tactic(auto)]
 
 mod arp;
-mod counting;
 mod link;
 
 pub use arp::emit_arp;

@@ -4,15 +4,14 @@ ghost use Rattle.std.specs.Prelude.{◌≡◌, ◌+◌, ◌*◌, ◌≤◌, ◌<
 ghost use Rattle.policy_state.specs.Policy.{link};
 ghost use Rattle.rule_items.specs.Fragment.{Emits};
 ghost use Rattle.arp_rules.specs.Listing.{denied_items, link_items};
-ghost use Rattle.arp_rules.specs.Rulings.{said_of};
+ghost use Rattle.rule_items.specs.Rulings.{said_of};
 
-use crate::counting::counting;
 use apf_asm::Item;
 use apf_base::{List, OutOfMemory};
 use apf_coding::{Op, Verdict};
 use data_counters::Counter;
 use policy_state::Basis;
-use rule_items::{jump_if, load, to_end};
+use rule_items::{counting, jump_if, load, to_end};
 use std::alloc::Global;
 
 /// Denied ethertypes, with the ethertype in R0.

@@ -1,20 +1,25 @@
 -- Each answer has a counter of its verdict.
-use Rattle.std.proofs.Common.{◌≡◌, ◌≢◌, ℕ, ◌≤◌, Bool, true, false, not, eqb, List, length, Option, Some, None, refl, subst, lit≤}
+use Rattle.std.proofs.Common.{◌≡◌, ◌≢◌, ℕ, ◌≤◌, Bool, true, false, not, eqb, List, [], ◌∷◌, length, Option, Some, None, refl, subst, lit≤}
 use Rattle.std.proofs.lemmas.Bool.{ltb-false}
-use Rattle.std.specs.Prelude.{nat_lt, ◌&&◌, bytes_eq, if◌then◌else◌}
+use Rattle.std.specs.Prelude.{nat_lt, nat_le, map, ◌&&◌, bytes_eq, if◌then◌else◌}
 use Rattle.apf_coding.specs.declared.machine.Verdict.{Verdict}
 use Rattle.apf_coding.specs.declared.machine.Verdict.TheVariants.{Pass, Drop}
 use Rattle.data_counters.specs.declared.counter.Counter.{Counter}
-use Rattle.data_counters.specs.declared.counter.Counter.TheVariants.{PassedArp, PassedArpNonIpv4, PassedArpUnknown, PassedArpUnicastReply, PassedIpv4, PassedIpv6Icmp, PassedNonIpUnicast, Dropped8023Frame, DroppedEthertypeDenied, DroppedEthBroadcast, DroppedArpReplySpaNoHost, DroppedGarpReply, DroppedArpOtherHost}
+use Rattle.data_counters.specs.declared.counter.Counter.TheVariants.{PassedArp, PassedArpNonIpv4, PassedArpUnknown, PassedArpUnicastReply, PassedIpv4, PassedIpv6NonIcmp, PassedIpv6UnicastNonIcmp, PassedIpv6Icmp, PassedNonIpUnicast, Dropped8023Frame, DroppedEthertypeDenied, DroppedEthBroadcast, DroppedArpReplySpaNoHost, DroppedGarpReply, DroppedArpOtherHost, DroppedRa, DroppedIpv6RouterSolicitation, DroppedIpv6MulticastNa, DroppedIpv6Multicast}
 use Rattle.data_counters.specs.Counters.{number_of}
 use Rattle.policy_state.specs.declared.basis.Basis.{Basis}
+use Rattle.policy_state.specs.declared.basis.Chosen.{Chosen}
 use Rattle.policy_state.specs.declared.state.Address.{Address}
 use Rattle.policy_state.specs.declared.ruling.Ruling.{Ruling}
 use Rattle.policy_state.specs.declared.ruling.Ruling.TheVariants as rulings
 use Rattle.policy_state.specs.Asking.{reading, when, otherwise, first_of}
-use Rattle.frame_views.specs.Fields.{part}
+use Rattle.frame_views.specs.Fields.{field, part}
 use Rattle.policy_state.specs.Ethernet.{destination, ethertype, broadcast}
+use Rattle.ra_records.specs.Advert.{same}
+use Rattle.std.specs.List.{list_all}
+use Rattle.policy_state.specs.Records.{lasts, advertised_again}
 use Rattle.policy_state.specs.Policy.{is_denied, frames_802_3, denied_types, link, for_other_addresses, unknown_operations, replies_of_no_host, unicast_replies, arp_opening, arp_operation, arp_sender, arp_target, gratuitous_arp, arp_for_other_hosts, arp, ip4, ip6, others, questions}
+use Rattle.policy_state.specs.Ip6.{next_header, icmp_type, by_destination, echo_requests, ip6_multicast, ip6_other_than_icmp, router_solicitations, all_nodes, advertisements_to_all_nodes, ip6_header_lines}
 use Rattle.policy_state.specs.Whole.{Short, Says, fate_of, policy}
 
 -- ---- a counter of a verdict
@@ -110,8 +115,44 @@ told_arp basis frame = told_reading (ethertype frame) _ (λ e. told_when (eqb e 
 told_ip4 : (frame : List ℕ) → IsTold (ip4 frame)
 told_ip4 frame = told_reading (ethertype frame) _ (λ e. told_when (eqb e 0x800) _ (told_says Pass PassedIpv4 (record { least = lit≤ tt; most = lit≤ tt })))
 
-told_ip6 : (frame : List ℕ) → IsTold (ip6 frame)
-told_ip6 frame = told_reading (ethertype frame) _ (λ e. told_when (eqb e 0x86dd) _ (told_says Pass PassedIpv6Icmp (record { least = lit≤ tt; most = lit≤ tt })))
+told_by_destination : (frame : List ℕ) → IsTold (by_destination frame)
+told_by_destination frame = told_reading (field frame 38 1) _ (λ b. told_if (eqb b 0xff) _ _ (told_says Drop DroppedIpv6Multicast (record { least = lit≤ tt; most = lit≤ tt })) (told_says Pass PassedIpv6UnicastNonIcmp (record { least = lit≤ tt; most = lit≤ tt })))
+
+told_echo_requests : (basis : Basis) (frame : List ℕ) → IsTold (echo_requests basis frame)
+told_echo_requests basis frame = told_when basis.state.doze _ (told_reading (icmp_type frame) _ (λ kind. told_when (eqb kind 128) _ (told_by_destination frame)))
+
+told_ip6_multicast : (basis : Basis) (frame : List ℕ) → IsTold (ip6_multicast basis frame)
+told_ip6_multicast basis frame = told_when basis.state.multicast _ (told_reading (next_header frame) _ (λ n. told_if (eqb n 58) _ _ (told_echo_requests basis frame) (told_by_destination frame)))
+
+told_other_than_icmp : (frame : List ℕ) → IsTold (ip6_other_than_icmp frame)
+told_other_than_icmp frame = told_reading (next_header frame) _ (λ n. told_when (not (eqb n 58)) _ (told_says Pass PassedIpv6NonIcmp (record { least = lit≤ tt; most = lit≤ tt })))
+
+told_solicitations : (frame : List ℕ) → IsTold (router_solicitations frame)
+told_solicitations frame = told_reading (icmp_type frame) _ (λ kind. told_when (eqb kind 133) _ (told_says Drop DroppedIpv6RouterSolicitation (record { least = lit≤ tt; most = lit≤ tt })))
+
+told_advertisements : (frame : List ℕ) → IsTold (advertisements_to_all_nodes frame)
+told_advertisements frame = told_reading (icmp_type frame) _ (λ kind. told_when (eqb kind 136) _
+    (told_reading (part frame 38 16) _ (λ d. told_when (bytes_eq d all_nodes) _ (told_says Drop DroppedIpv6MulticastNa (record { least = lit≤ tt; most = lit≤ tt })))))
+
+told_header_lines : (basis : Basis) (frame : List ℕ) → IsTold (ip6_header_lines basis frame)
+told_header_lines basis frame =
+    told_otherwise _ _ (told_ip6_multicast basis frame)
+    (told_otherwise _ _ (told_other_than_icmp frame)
+    (told_otherwise _ _ (told_solicitations frame)
+    (told_otherwise _ _ (told_advertisements frame) told_silent)))
+
+told_record : (chosen : Chosen) (age : ℕ) (frame : List ℕ) → IsTold (advertised_again chosen age frame)
+told_record chosen age frame = told_when (nat_le age chosen.hold && (same chosen.advert frame && list_all (lasts chosen.hold frame) chosen.advert.lifetimes)) _ (told_says Drop DroppedRa (record { least = lit≤ tt; most = lit≤ tt }))
+
+told_records : (chosen : List Chosen) (age : ℕ) (frame : List ℕ) → IsTold (first_of (map (λ one. advertised_again one age frame) chosen))
+told_records [] age frame = told_silent
+told_records (one ∷ chosen) age frame = told_otherwise _ _ (told_record one age frame) (told_records chosen age frame)
+
+told_ip6 : (basis : Basis) (age : ℕ) (frame : List ℕ) → IsTold (ip6 basis age frame)
+told_ip6 basis age frame = told_reading (ethertype frame) _ (λ e. told_when (eqb e 0x86dd) _
+    (told_otherwise _ _ (told_header_lines basis frame)
+    (told_otherwise _ _ (told_records basis.chosen age frame)
+    (told_otherwise _ _ (told_says Pass PassedIpv6Icmp (record { least = lit≤ tt; most = lit≤ tt })) told_silent))))
 
 told_others : (frame : List ℕ) → IsTold (others frame)
 told_others frame = told_reading (destination frame) _ (λ m. told_if (bytes_eq m broadcast) _ _ (told_says Drop DroppedEthBroadcast (record { least = lit≤ tt; most = lit≤ tt })) (told_says Pass PassedNonIpUnicast (record { least = lit≤ tt; most = lit≤ tt })))
@@ -121,7 +162,7 @@ told_questions basis age frame =
     told_otherwise _ _ (told_link basis frame)
     (told_otherwise _ _ (told_arp basis frame)
     (told_otherwise _ _ (told_ip4 frame)
-    (told_otherwise _ _ (told_ip6 frame)
+    (told_otherwise _ _ (told_ip6 basis age frame)
     (told_otherwise _ _ (told_others frame) told_silent))))
 
 -- ---- whole frames
@@ -155,7 +196,7 @@ others_answer (Some m) e = go (bytes_eq m broadcast) e
 
 pub questions-answer : (basis : Basis) (age : ℕ) (frame : List ℕ) → first_of (questions basis age frame) ≢ rulings.Silent
 questions-answer basis age frame =
-    later_answers (link basis frame) _ (later_answers (arp basis frame) _ (later_answers (ip4 frame) _ (later_answers (ip6 frame) _ (others_answer (destination frame)))))
+    later_answers (link basis frame) _ (later_answers (arp basis frame) _ (later_answers (ip4 frame) _ (later_answers (ip6 basis age frame) _ (others_answer (destination frame)))))
 
 short_fate : (long : Bool) (answer : Ruling) → (if long then fate_of answer else Short) ≡ Short → long ≡ false
 short_fate false answer e = refl

@@ -8,6 +8,7 @@ use Rattle.policy_state.specs.declared.basis.Basis.{Basis}
 use Rattle.policy_state.specs.declared.ruling.Ruling.{Ruling}
 use Rattle.policy_state.specs.declared.ruling.Ruling.TheVariants.{Says}
 use Rattle.policy_state.specs.Asking.{reading, when, first_of}
+use Rattle.policy_state.specs.Records.{repeated_advertisements}
 
 -- ---- the IPv6 header and the ICMPv6 message
 
@@ -17,19 +18,21 @@ next_header frame = field frame 20 1
 abbrev pub icmp_type : List ℕ → Option ℕ
 icmp_type frame = field frame 54 1
 
--- ---- what multicast is filtered by
+-- ---- multicast and doze
 
 -- by the destination address's first byte
 abbrev pub by_destination : List ℕ → Ruling
 by_destination frame = reading (field frame 38 1) (λ b.
     if b == 0xff then Says Drop DroppedIpv6Multicast else Says Pass PassedIpv6UnicastNonIcmp)
 
--- packets other than ICMPv6, and echo requests to a host that dozes
+-- echo requests to a host that dozes
+abbrev pub echo_requests : Basis → List ℕ → Ruling
+echo_requests basis frame = when basis.state.doze (reading (icmp_type frame) (λ kind. when (kind == 128) (by_destination frame)))
+
+-- packets other than ICMPv6, and such echo requests
 abbrev pub ip6_multicast : Basis → List ℕ → Ruling
 ip6_multicast basis frame = when basis.state.multicast
-    (reading (next_header frame) (λ n.
-    if n == 58 then when basis.state.doze (reading (icmp_type frame) (λ kind. when (kind == 128) (by_destination frame)))
-    else by_destination frame))
+    (reading (next_header frame) (λ n. if n == 58 then echo_requests basis frame else by_destination frame))
 
 -- ---- ICMPv6 messages
 
@@ -47,11 +50,20 @@ abbrev pub advertisements_to_all_nodes : List ℕ → Ruling
 advertisements_to_all_nodes frame = reading (icmp_type frame) (λ kind. when (kind == 136)
     (reading (part frame 38 16) (λ destination. when (bytes_eq destination all_nodes) (Says Drop DroppedIpv6MulticastNa))))
 
-abbrev pub ip6_lines : Basis → List ℕ → Ruling
-ip6_lines basis frame = first_of (
+-- ---- the lines in order
+
+-- what is asked of the headers alone, whatever was advertised before
+abbrev pub ip6_header_lines : Basis → List ℕ → Ruling
+ip6_header_lines basis frame = first_of (
     ip6_multicast basis frame
     ∷ ip6_other_than_icmp frame
     ∷ router_solicitations frame
     ∷ advertisements_to_all_nodes frame
-    ∷ Says Pass PassedIpv6Icmp
     ∷ [])
+
+-- every other ICMPv6 message
+abbrev pub other_icmp6 : Ruling
+other_icmp6 = Says Pass PassedIpv6Icmp
+
+abbrev pub ip6_lines : Basis → ℕ → List ℕ → Ruling
+ip6_lines basis age frame = first_of (ip6_header_lines basis frame ∷ repeated_advertisements basis age frame ∷ other_icmp6 ∷ [])

@@ -4,5 +4,6 @@ pub mod Ethernet
 pub mod Ip4
 pub mod Ip6
 pub mod Policy
+pub mod Records
 pub mod States
 pub mod Whole

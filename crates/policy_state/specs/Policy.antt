@@ -4,7 +4,7 @@
 use Rattle.std.specs.Prelude.{ℕ, ◌==◌, nat_lt, Bool, not, ◌&&◌, if◌then◌else◌, List, [], ◌∷◌, bytes_eq, Option, Some, None}
 use Rattle.std.specs.List.{list_any}
 use Rattle.apf_coding.specs.declared.machine.Verdict.TheVariants.{Pass, Drop}
-use Rattle.data_counters.specs.declared.counter.Counter.TheVariants.{PassedArp, PassedArpNonIpv4, PassedArpUnknown, PassedArpUnicastReply, PassedIpv4, PassedIpv6Icmp, PassedNonIpUnicast, Dropped8023Frame, DroppedEthertypeDenied, DroppedEthBroadcast, DroppedArpReplySpaNoHost, DroppedGarpReply, DroppedArpOtherHost}
+use Rattle.data_counters.specs.declared.counter.Counter.TheVariants.{PassedArp, PassedArpNonIpv4, PassedArpUnknown, PassedArpUnicastReply, PassedIpv4, PassedNonIpUnicast, Dropped8023Frame, DroppedEthertypeDenied, DroppedEthBroadcast, DroppedArpReplySpaNoHost, DroppedGarpReply, DroppedArpOtherHost}
 use Rattle.frame_views.specs.Fields.{field, part}
 use Rattle.policy_state.specs.declared.basis.Basis.{Basis}
 use Rattle.policy_state.specs.declared.state.Address.{Address}
@@ -12,6 +12,7 @@ use Rattle.policy_state.specs.declared.ruling.Ruling.{Ruling}
 use Rattle.policy_state.specs.declared.ruling.Ruling.TheVariants.{Says, Silent}
 use Rattle.policy_state.specs.Asking.{reading, when, first_of}
 use Rattle.policy_state.specs.Ethernet.{destination, ethertype, broadcast}
+use Rattle.policy_state.specs.Ip6.{ip6_lines}
 
 -- ---- question 1: frames whose ethertype is a length
 
@@ -89,8 +90,8 @@ ip4 frame = reading (ethertype frame) (λ e. when (e == 0x800) (Says Pass Passed
 
 -- ---- question 5: IPv6
 
-abbrev pub ip6 : List ℕ → Ruling
-ip6 frame = reading (ethertype frame) (λ e. when (e == 0x86dd) (Says Pass PassedIpv6Icmp))
+abbrev pub ip6 : Basis → ℕ → List ℕ → Ruling
+ip6 basis age frame = reading (ethertype frame) (λ e. when (e == 0x86dd) (ip6_lines basis age frame))
 
 -- ---- question 6: all other frames
 
@@ -101,4 +102,4 @@ others frame = reading (destination frame) (λ mac.
 -- ---- the whole
 
 abbrev pub questions : Basis → ℕ → List ℕ → List Ruling
-questions basis age frame = link basis frame ∷ arp basis frame ∷ ip4 frame ∷ ip6 frame ∷ others frame ∷ []
+questions basis age frame = link basis frame ∷ arp basis frame ∷ ip4 frame ∷ ip6 basis age frame ∷ others frame ∷ []

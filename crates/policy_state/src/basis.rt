@@ -4,12 +4,25 @@ use crate::{Config, FilterState, StateError, Update};
 use apf_base::List;
 use apf_coding::Verdict;
 use data_counters::Counter;
+use ra_records::Record;
+
+/// A record of an advertisement that a program was made with.
+#[derive(Debug, Drop)]
+pub struct Chosen {
+    /// The record's number.
+    pub id: u64,
+    pub advert: Record,
+    /// Up to which age in seconds the program drops frames that match.
+    pub hold: u32,
+}
 
 /// What a program is made from.
 #[derive(Debug, Drop)]
 pub struct Basis {
     pub config: Config,
     pub state: FilterState,
+    /// The records, in the order in which they are asked.
+    pub chosen: List<Chosen>,
 }
 
 /// A change of the state, and the second at which it is made.

@@ -2,7 +2,7 @@
 
 ghost use Rattle.std.specs.Prelude.{◌≡◌, IfOk};
 
-use crate::{Basis, Config};
+use crate::{Basis, Chosen, Config};
 use apf_base::{List, OutOfMemory};
 use std::alloc::Global;
 
@@ -22,6 +22,28 @@ impl Config {
     }
 }
 
+impl Chosen {
+    fn copy(&self, alloc: Global) -> Result<Chosen, OutOfMemory>
+        ensures { IfOk result (λ copy. copy ≡ self.now) }
+    {
+        Ok(Chosen {
+            id: self.id,
+            advert: self.advert.copy(alloc)?,
+            hold: self.hold,
+        })
+    }
+}
+
+fn copy_all(alloc: Global, chosen: &[Chosen]) -> Result<List<Chosen>, OutOfMemory>
+    ensures { IfOk result (λ copies. copies ≡ chosen.now) }
+{
+    let mut copies = List::new(alloc);
+    for one in chosen {
+        copies.push(one.copy(alloc)?)?;
+    }
+    Ok(copies)
+}
+
 impl Basis {
     /// An equal basis.
     pub fn copy(&self, alloc: Global) -> Result<Basis, OutOfMemory>
@@ -30,6 +52,7 @@ impl Basis {
         Ok(Basis {
             config: self.config.copy(alloc)?,
             state: self.state,
+            chosen: copy_all(alloc, self.chosen.as_slice())?,
         })
     }
 }

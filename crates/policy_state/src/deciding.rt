@@ -1,12 +1,13 @@
 //! The policy, asked of a frame.
 
 ghost use Rattle.std.specs.Prelude.{◌≡◌};
-ghost use Rattle.policy_state.specs.Policy.{ip4, ip6, others, questions};
+ghost use Rattle.policy_state.specs.Policy.{ip4, others, questions};
 ghost use Rattle.policy_state.specs.Asking.{first_of};
 ghost use Rattle.policy_state.specs.Whole.{policy, fate_of, verdict_of, counter_of};
 
 use crate::Basis;
 use crate::arp::arp;
+use crate::ip6::ip6;
 use crate::link::{BROADCAST, link};
 use crate::ruling::Ruling;
 use apf_coding::Verdict;
@@ -20,17 +21,6 @@ fn ip4(frame: &[u8]) -> Ruling
     match Ether::new(frame).ethertype() {
         None => Ruling::Missing,
         Some(0x800) => Ruling::Says(Verdict::Pass, Counter::PassedIpv4),
-        Some(_) => Ruling::Silent,
-    }
-}
-
-/// IPv6 frames.
-fn ip6(frame: &[u8]) -> Ruling
-    ensures { result ≡ ip6 frame.now }
-{
-    match Ether::new(frame).ethertype() {
-        None => Ruling::Missing,
-        Some(0x86dd) => Ruling::Says(Verdict::Pass, Counter::PassedIpv6Icmp),
         Some(_) => Ruling::Silent,
     }
 }
@@ -49,8 +39,8 @@ fn others(frame: &[u8]) -> Ruling
 }
 
 /// The first answer.
-fn first_answer(basis: &Basis, _age: u32, frame: &[u8]) -> Ruling
-    ensures { result ≡ first_of (questions basis.now _age frame.now) }
+fn first_answer(basis: &Basis, age: u32, frame: &[u8]) -> Ruling
+    ensures { result ≡ first_of (questions basis.now age frame.now) }
 {
     let mut answer = link(basis, frame);
     if answer == Ruling::Silent {
@@ -60,7 +50,7 @@ fn first_answer(basis: &Basis, _age: u32, frame: &[u8]) -> Ruling
         answer = ip4(frame);
     }
     if answer == Ruling::Silent {
-        answer = ip6(frame);
+        answer = ip6(basis, age, frame);
     }
     if answer == Ruling::Silent {
         answer = others(frame);

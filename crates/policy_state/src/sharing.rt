@@ -1,8 +1,8 @@
 //! The types may be handed to and shared with other threads.
 
 use crate::{
-    Address, Answer, Basis, Changed, Config, FilterState, Keepalive, Script, StateError, Timed,
-    Update, UpdateReply,
+    Address, Answer, Basis, Changed, Chosen, Config, FilterState, Keepalive, Script, StateError,
+    Timed, Update, UpdateReply,
 };
 
 fn is_shared<T: Send + Sync>() {}
@@ -18,6 +18,7 @@ pub fn types_are_shared() {
     is_shared::<StateError>();
     is_shared::<Timed>();
     is_shared::<Script>();
+    is_shared::<Chosen>();
     is_shared::<Basis>();
     is_shared::<Answer>();
     is_shared::<UpdateReply>();

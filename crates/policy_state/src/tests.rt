@@ -76,6 +76,7 @@ fn copies_are_equal(rt: HostRuntime) -> Result<(), Fail> {
     let basis = Basis {
         config,
         state: FilterState::start(),
+        chosen: List::new(rt.alloc()),
     };
     let copy = basis.copy(rt.alloc())?;
     assert_eq!(rt; copy.config.deny.as_slice(), [0x88a2].as_slice());

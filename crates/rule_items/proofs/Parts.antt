@@ -13,8 +13,8 @@ use Rattle.apf_asm.specs.Refusals.{stands}
 use Rattle.rule_items.specs.Saying.{Said, Missing, Says, Silent, End, end_of, with_registers, Follows, IsReady, Tells}
 use Rattle.rule_items.specs.Fragment.{IsApart, AreFresh, IsFragment, IsPart, labels}
 use Rattle.rule_items.proofs.Forms.{IsSound, sound-of, sound-append, labels-append, forms_of, label_form_of, land_of}
-use Rattle.rule_items.proofs.Language.{said_first}
-use Rattle.rule_items.proofs.Rules.{joined_said}
+use Rattle.rule_items.proofs.Language.{Language, said_first}
+use Rattle.rule_items.proofs.Rules.{Yields, joined_said}
 use Rattle.rule_items.proofs.Steps.{on}
 
 -- ---- what items say, one behind the other
@@ -66,6 +66,13 @@ apart-below k mid to (l ∷ ls) lt fresh = let le : mid ≤ l = fresh.0 in ((λ 
 fresh-lower : (from mid to : ℕ) (ls : List ℕ) → from ≤ mid → AreFresh mid to ls → AreFresh from to ls
 fresh-lower from mid to [] le fresh = tt
 fresh-lower from mid to (l ∷ ls) le fresh = let above : mid ≤ l = fresh.0 in (omega arith, fresh.1, fresh.2, fresh-lower from mid to ls le fresh.3)
+
+-- a label that was drawn before others stands behind them
+pub fresh-over : (l to : ℕ) (ks : List ℕ) → l < to → AreFresh (l + 1) to ks → AreFresh l to (ks ++ (l ∷ []))
+fresh-over l to [] lt fresh = (omega arith, lt, tt, tt)
+fresh-over l to (k ∷ ks) lt fresh =
+    let above : l + 1 ≤ k = fresh.0 in
+    (omega arith, fresh.1, apart-append k ks (l ∷ []) fresh.2 ((λ e. absurd (omega arith)), tt), fresh-over l to ks lt fresh.3)
 
 fresh-join : (from mid to : ℕ) (ks ls : List ℕ) → from ≤ mid → mid ≤ to → AreFresh from mid ks → AreFresh mid to ls → AreFresh from to (ks ++ ls)
 fresh-join from mid to [] ls le ge f g = fresh-lower from mid to ls le g
@@ -127,4 +134,12 @@ pub part-same : (q p : ℕ → List ℕ → Said) (from to most more : ℕ) (xs 
 part-same q p from to most more xs same le x = record {
   form = fragment-of from to more xs (sound-fragment from to most xs x.form) x.form.rises x.form.fresh x.form.drawn (omega (arith, x.form.short));
   tells = record { tells = λ n frame age m rest ready. subst (λ (said : Said). Follows said rest n frame m (end_of (flow (xs ++ rest) n frame m))) (same age frame) (x.tells.tells n frame age m rest ready) };
+}
+
+-- from any registers of a machine that stands before a rule, a part yields the ruling that it tells
+pub part-yields : {R C : Type 0} (L : Language R C) (question : ℕ → List ℕ → R) (from to most : ℕ) (xs : List Item) → 2 ≤ from → IsPart (λ age frame. L.said (question age frame)) from to most xs
+    → (n : ℕ) (frame : List ℕ) (age : ℕ) (m : State) → IsReady n frame age m → (r0 r1 : ℕ) → Yields L n frame m r0 r1 (question age frame) xs
+part-yields L question from to most xs low part n frame age m ready r0 r1 = record {
+  flows = λ rest. same_base (L.said (question age frame)) rest n frame m r0 r1 _ (part.tells.tells n frame age (with_registers r0 r1 m) rest (still_ready n frame age m r0 r1 ready));
+  away = λ l lt. fresh-away from to l xs part.form.fresh (omega arith);
 }

@@ -8,6 +8,8 @@ use Rattle.apf_asm.specs.declared.item.Item.{Item}
 use Rattle.apf_asm.specs.declared.item.Item.TheVariants as items
 use Rattle.apf_asm.specs.declared.item.Target.{Target}
 use Rattle.apf_asm.specs.declared.item.Target.TheVariants as targets
+use Rattle.data_counters.specs.declared.counter.Counter.{Counter}
+use Rattle.data_counters.specs.Counters.{number_of}
 
 -- the label at which a verdict is counted
 abbrev pub label_of : Verdict → ℕ
@@ -32,6 +34,9 @@ place at = fixed Li 0 1 at
 -- R1 says which counter is to be raised, by its number
 abbrev pub count : ℕ → Item
 count number = fixed Li 1 1 (256 - 4 * number)
+
+abbrev pub counting : Counter → Item
+counting counter = count (number_of counter)
 
 -- a jump where R0 compares with a number
 abbrev pub jump_if : Op → ℕ → Target → Item

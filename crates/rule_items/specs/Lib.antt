@@ -1,3 +1,4 @@
 pub mod Building
 pub mod Saying
+pub mod Rulings
 pub mod Fragment

@@ -1,11 +1,12 @@
 //! Items by what they do.
 
 ghost use Rattle.std.specs.Prelude.{◌≡◌, ◌≤◌, IfOk};
-ghost use Rattle.rule_items.specs.Building.{to_end, fixed, load, place, count, jump_if, jump_if_r1, jump, jump_unless};
+ghost use Rattle.rule_items.specs.Building.{to_end, fixed, load, place, count, counting, jump_if, jump_if_r1, jump, jump_unless};
 
 use apf_asm::{Fixed, Item, Jump, Target};
 use apf_base::{List, OutOfMemory};
 use apf_coding::{Op, Verdict};
+use data_counters::Counter;
 use std::alloc::Global;
 
 /// Where a verdict is counted: label 0 for Pass, label 1 for Drop.
@@ -52,6 +53,13 @@ pub fn count(alloc: Global, number: u8) -> Item
     ensures { result ≡ count number }
 {
     fixed(alloc, Op::Li, 1, 1, 256 - 4 * u32::from(number))
+}
+
+/// `li r1 -4N` with the counter's number.
+pub fn counting(alloc: Global, counter: Counter) -> Item
+    ensures { result ≡ counting counter }
+{
+    count(alloc, counter.number())
 }
 
 /// A conditional jump that compares R0 with a number.

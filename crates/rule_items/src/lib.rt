@@ -6,4 +6,6 @@
 
 mod building;
 
-pub use building::{count, fixed, jump, jump_if, jump_if_r1, jump_unless, load, place, to_end};
+pub use building::{
+    count, counting, fixed, jump, jump_if, jump_if_r1, jump_unless, load, place, to_end,
+};

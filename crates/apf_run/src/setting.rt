@@ -1,0 +1,29 @@
+//! What `program` generates a program for.
+
+ghost use Rattle.std.specs.Prelude.{◌≤◌};
+
+use policy_state::Address;
+
+/// The switches of a filter.
+#[derive(Clone, Copy)]
+pub struct Flags {
+    /// Whether 802.3 frames are dropped.
+    pub drop_802_3: bool,
+    /// Whether the host dozes.
+    pub doze: bool,
+    /// Whether multicast is filtered.
+    pub multicast: bool,
+}
+
+/// The values of `program`.
+#[derive(Drop)]
+pub struct ProgramWords {
+    /// The host's MAC.
+    pub mac: [u8; 6],
+    /// The bytes that the device has for program and memory, 128 to 8192.
+    pub capacity: u32,
+    pub address: Option<Address>,
+    pub flags: Flags,
+    pub ghost least: { 128 ≤ capacity },
+    pub ghost most: { capacity ≤ 8192 },
+}

@@ -1,0 +1,156 @@
+//! The rule for IPv6.
+
+ghost use Rattle.std.specs.Prelude.{◌≡◌, ◌+◌, ◌≤◌, IfOk, OnOk, OnErr};
+ghost use Rattle.policy_state.specs.Ip6.{ip6_header_lines};
+ghost use Rattle.rule_items.specs.Fragment.{Emits};
+ghost use Rattle.rule_items.specs.Rulings.{said_of};
+ghost use Rattle.ip_rules.specs.Ip6Listing.{destination_items, message_items, unfiltered_items, filtered_items, dozing_items, ip6_items};
+
+use apf_asm::{Item, Target};
+use apf_base::{List, OutOfMemory};
+use apf_coding::{Op, Verdict};
+use data_counters::Counter;
+use policy_state::Basis;
+use rule_items::{counting, jump, jump_if, jump_unless, load, place, to_end};
+use std::alloc::Global;
+
+/// The address of all nodes of a link, ff02::1 (RFC 4291, section 2.7.1).
+const ALL_NODES: [u8; 16] = [0xff, 0x02, 0, 0, 0, 0, 0, 0, 0, 0, 0, 0, 0, 0, 0, 1];
+
+/// The next header of an ICMPv6 message (RFC 4443, section 1).
+const ICMP6: u32 = 58;
+
+/// The types of ICMPv6 messages that are asked for (RFC 4443, section 4.1, and RFC 4861, sections 4.1 and 4.4).
+const ECHO_REQUEST: u32 = 128;
+
+const ROUTER_SOLICITATION: u32 = 133;
+
+const NEIGHBOR_ADVERTISEMENT: u32 = 136;
+
+/// Whether a packet is multicast.
+fn destination_items(alloc: Global) -> Result<List<Item>, OutOfMemory>
+    ensures { IfOk result (λ xs. xs ≡ destination_items) }
+{
+    List::of(
+        alloc,
+        [
+            counting(alloc, Counter::DroppedIpv6Multicast),
+            load(alloc, Op::Ldb, 38),
+            jump_if(alloc, Op::Jeq, 0xff, to_end(Verdict::Drop)),
+            counting(alloc, Counter::PassedIpv6UnicastNonIcmp),
+            jump(alloc, to_end(Verdict::Pass)),
+        ],
+    )
+}
+
+/// ICMPv6 messages. Those that aren't answered go over what is asked of advertisements.
+fn message_items(alloc: Global, over: u32) -> Result<List<Item>, OutOfMemory>
+    ensures { IfOk result (λ xs. xs ≡ message_items over) }
+{
+    let other = jump_unless(alloc, &ALL_NODES, Target::Label(over))?;
+    List::of(
+        alloc,
+        [
+            load(alloc, Op::Ldb, 54),
+            counting(alloc, Counter::DroppedIpv6RouterSolicitation),
+            jump_if(alloc, Op::Jeq, ROUTER_SOLICITATION, to_end(Verdict::Drop)),
+            jump_if(alloc, Op::Jne, NEIGHBOR_ADVERTISEMENT, Target::Label(over)),
+            place(alloc, 38),
+            counting(alloc, Counter::DroppedIpv6MulticastNa),
+            other,
+            jump(alloc, to_end(Verdict::Drop)),
+            Item::Label(over),
+        ],
+    )
+}
+
+/// Where multicast isn't filtered.
+fn unfiltered_items(alloc: Global, over: u32) -> Result<List<Item>, OutOfMemory>
+    ensures { IfOk result (λ xs. xs ≡ unfiltered_items over) }
+{
+    let mut items = List::of(
+        alloc,
+        [
+            load(alloc, Op::Ldb, 20),
+            counting(alloc, Counter::PassedIpv6NonIcmp),
+            jump_if(alloc, Op::Jne, ICMP6, to_end(Verdict::Pass)),
+        ],
+    )?;
+    items.append(message_items(alloc, over)?)?;
+    Ok(items)
+}
+
+/// Where it is: ICMPv6 messages go over what is asked of the destination.
+fn filtered_items(alloc: Global, message: u32, over: u32) -> Result<List<Item>, OutOfMemory>
+    ensures { IfOk result (λ xs. xs ≡ filtered_items message over) }
+{
+    let mut items = List::of(
+        alloc,
+        [
+            load(alloc, Op::Ldb, 20),
+            jump_if(alloc, Op::Jeq, ICMP6, Target::Label(message)),
+        ],
+    )?;
+    items.append(destination_items(alloc)?)?;
+    items.push(Item::Label(message))?;
+    items.append(message_items(alloc, over)?)?;
+    Ok(items)
+}
+
+/// Where the host dozes as well: ICMPv6 messages but echo requests go over it.
+fn dozing_items(
+    alloc: Global,
+    destination: u32,
+    message: u32,
+    over: u32,
+) -> Result<List<Item>, OutOfMemory>
+    ensures { IfOk result (λ xs. xs ≡ dozing_items destination message over) }
+{
+    let mut items = List::of(
+        alloc,
+        [
+            load(alloc, Op::Ldb, 20),
+            jump_if(alloc, Op::Jne, ICMP6, Target::Label(destination)),
+            load(alloc, Op::Ldb, 54),
+            jump_if(alloc, Op::Jne, ECHO_REQUEST, Target::Label(message)),
+            Item::Label(destination),
+        ],
+    )?;
+    items.append(destination_items(alloc)?)?;
+    items.push(Item::Label(message))?;
+    items.append(message_items(alloc, over)?)?;
+    Ok(items)
+}
+
+/// The whole fragment.
+fn ip6_items(alloc: Global, basis: &Basis, next: u32) -> Result<List<Item>, OutOfMemory>
+    requires { next ≤ 1000000 }
+    ensures { IfOk result (λ xs. xs ≡ ip6_items basis.now next) }
+{
+    match (basis.state.multicast, basis.state.doze) {
+        (false, _) => unfiltered_items(alloc, next),
+        (true, false) => filtered_items(alloc, next + 1, next),
+        (true, true) => dozing_items(alloc, next + 2, next + 1, next),
+    }
+}
+
+/// Appends the questions on IPv6 that are asked of the headers alone (RFC 8200 and RFC 4861). It draws three labels.
+///
+/// The ethertype isn't asked for: the fragment is for frames whose ethertype is 0x86dd. Its instructions have at most 124
+/// bytes. After an error nothing has changed.
+pub fn emit_ip6(
+    alloc: Global,
+    basis: &Basis,
+    next: &mut u32,
+    out: &mut List<Item>,
+) -> Result<(), OutOfMemory>
+    requires low { 2 ≤ next.old }
+    requires high { next.old ≤ 1000000 }
+    ensures ok { OnOk result (Emits (λ age frame. said_of (ip6_header_lines basis.now frame)) 124 next.old next.new out.old out.new) }
+    ensures err { OnErr result (out.new ≡ out.old) }
+    ensures next { OnErr result (next.new ≡ next.old) }
+{
+    out.append(ip6_items(alloc, basis, *next)?)?;
+    *next += 3;
+    Ok(())
+}

@@ -1,0 +1,3 @@
+pub mod Advert
+pub mod Masks
+pub mod Options
