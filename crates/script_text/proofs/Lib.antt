@@ -9,3 +9,6 @@ pub mod LineWords
 pub mod EventWords
 pub mod Faults
 pub mod Grammar
+pub mod LeftWords
+pub mod Pieces
+pub mod Counted

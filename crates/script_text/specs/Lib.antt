@@ -1,3 +1,4 @@
+pub mod Report
 pub mod ScriptLines
 pub mod ScriptReading
 pub mod Scripts
