@@ -264,12 +264,12 @@ head_stands text err f = elim f.cause [
         number_is = refl;
       })
   | inr h ↦ subst (Stands text) (sym h.4) (record {
-      before = f.before;
-      line = h.1;
-      after = h.2;
-      lines_are = f.lines_are ∙ ap (λ (t : Kept). f.before ++ t) h.3;
-      fault = (f.begins, λ form. h.5 (subst (λ (k : ℕ). IsOfForm k h.1) (length-texts f.before) form));
-    })
+    before = f.before;
+    line = h.1;
+    after = h.2;
+    lines_are = f.lines_are ∙ ap (λ (t : Kept). f.before ++ t) h.3;
+    fault = (f.begins, λ form. h.5 (subst (λ (k : ℕ). IsOfForm k h.1) (length-texts f.before) form));
+  })
 ]
 
 events_stand : (text : List ℕ) (err : ScriptError) → EventsFault (length (lines_of text) + 1) (kept_lines text) err → Stands text err
@@ -281,22 +281,22 @@ events_stand text err f =
     let split : kept_lines text ≡ (f.front ++ l.before) ++ (l.number, l.line) ∷ l.after = f.split ∙ ap (λ (t : Kept). f.front ++ t) l.lines_are ∙ sym (append_assoc f.front l.before ((l.number, l.line) ∷ l.after)) in
     elim l.fault [
       | inl h ↦ subst (Stands text) (sym h.0) (record {
-          before = f.front ++ l.before;
-          line = l.line;
-          after = l.after;
-          lines_are = split;
-          fault = (
-            record { script = c; sound = sound; later = []; lines_are = sym (append-nil (texts (f.front ++ l.before)) ∙ spelled) },
-            λ form. let e = form_behind _ _ _ _ _ _ (map event_line l.events) (texts (f.front ++ l.before)) l.line spelled form in h.1 e.0 (e.1, e.2),
-          );
-        })
+        before = f.front ++ l.before;
+        line = l.line;
+        after = l.after;
+        lines_are = split;
+        fault = (
+          record { script = c; sound = sound; later = []; lines_are = sym (append-nil (texts (f.front ++ l.before)) ∙ spelled) },
+          λ form. let e = form_behind _ _ _ _ _ _ (map event_line l.events) (texts (f.front ++ l.before)) l.line spelled form in h.1 e.0 (e.1, e.2),
+        );
+      })
       | inr h ↦ subst (Stands text) (sym h.0) (record {
-          before = f.front ++ l.before;
-          line = l.line;
-          after = l.after;
-          lines_are = split;
-          fault = (c, h.1.0, sound, spelled, h.1.1, h.1.2, late_is f.start.start l.events h.1.0 h.1.3);
-        })
+        before = f.front ++ l.before;
+        line = l.line;
+        after = l.after;
+        lines_are = split;
+        fault = (c, h.1.0, sound, spelled, h.1.1, h.1.2, late_is f.start.start l.events h.1.0 h.1.3);
+      })
     ]
 
 answer_stands : (text : List ℕ) (err : ScriptError) → script_answer text ≡ Err err → Stands text err

@@ -345,5 +345,6 @@ six_is E lines c rest e =
   where
     six_split : (lines front r0 r1 r2 r3 r4 r5 : Kept) (a b c d e f : ℕ × List ℕ) → lines ≡ a ∷ r0 → r0 ≡ b ∷ r1 → r1 ≡ c ∷ r2 → r2 ≡ d ∷ r3 → r3 ≡ e ∷ r4 → r4 ≡ f ∷ r5 → front ≡ a ∷ b ∷ c ∷ d ∷ e ∷ f ∷ [] → lines ≡ front ++ r5
     six_split lines front r0 r1 r2 r3 r4 r5 a b c d e f p q m n i j k = rw (p, q, m, n, i, j, k) refl
+
     six_texts : (l0 l1 l2 l3 l4 l5 : List ℕ) (c : Contents) → l0 ≡ version_line → l1 ≡ mac_line c.mac → l2 ≡ capacity_line c.capacity → l3 ≡ start_line c.start → l4 ≡ drop_line c.drop_802_3 → l5 ≡ deny_line c.deny → l0 ∷ l1 ∷ l2 ∷ l3 ∷ l4 ∷ l5 ∷ [] ≡ first_lines c
     six_texts l0 l1 l2 l3 l4 l5 c e0 e1 e2 e3 e4 e5 = rw (e0, e1, e2, e3, e4, e5) refl

@@ -34,15 +34,18 @@ gen_line number at left code =
 
 -- ---- updates that install nothing
 
+-- why a state refused an update
 unfoldable pub refusal_words : StateError → List ℕ
 refusal_words (Prefix n) = codes "prefix " ++ decimal n
 refusal_words (SlotRange n) = codes "slot-range " ++ decimal n
 refusal_words (SlotInUse n) = codes "slot-in-use " ++ decimal n
 refusal_words (SlotEmpty n) = codes "slot-empty " ++ decimal n
 
+-- an update that the state refused
 unfoldable pub refused_line : ℕ → StateError → List ℕ
 refused_line at e = codes "refused at " ++ decimal at ++ codes " " ++ refusal_words e ++ codes "\n"
 
+-- an update whose program would not fit
 unfoldable pub kept_line : ℕ → ℕ → ℕ → List ℕ
 kept_line at need limit = codes "kept at " ++ decimal at ++ codes " need " ++ decimal need ++ codes " limit " ++ decimal limit ++ codes "\n"
 
@@ -55,6 +58,7 @@ update_line (updates.NotInstalled need limit) at = kept_line at need limit
 
 -- ---- frames
 
+-- what became of a frame
 unfoldable pub verdict_word : Verdict → List ℕ
 verdict_word Pass = codes "pass"
 verdict_word Drop = codes "drop"
@@ -87,6 +91,7 @@ bad_words (refusals.ZeroOption at) = codes "bad zero-option " ++ decimal at
 bad_words (refusals.ShortOption at) = codes "bad short-option " ++ decimal at
 bad_words refusals.OutOfMemory = []
 
+-- what came of an advertisement
 unfoldable pub reply_words : RaReply → List ℕ
 reply_words (replies.Match id) = codes "match " ++ decimal id
 reply_words (replies.Refreshed id) = codes "refreshed " ++ decimal id
@@ -113,10 +118,12 @@ numbered_line memory n = option_map_or (counter_line memory) (counter_of n) []
 unfoldable pub counter_lines : List ℕ → List ℕ
 counter_lines memory = flat_map (counter_line memory) all_counters
 
+-- the frames, those that passed and those that were dropped, and the programs
 unfoldable pub total_line : ℕ → ℕ → ℕ → List ℕ
 total_line frames passed programs =
     codes "total frames " ++ decimal frames ++ codes " passed " ++ decimal passed ++ codes " dropped " ++ decimal (frames - passed)
     ++ codes " programs " ++ decimal programs ++ codes "\n"
 
+-- the last lines of a report
 abbrev pub totals_lines : List ℕ → ℕ → ℕ → ℕ → List ℕ
 totals_lines memory frames passed programs = counter_lines memory ++ total_line frames passed programs

@@ -14,6 +14,7 @@ use Rattle.script_text.specs.Words.{mac_word, ethertype_word, address_word, endp
 
 -- ---- what a script says
 
+-- the values that stand in its lines
 pub record Contents : Type 0 where
   pub mac : List ℕ
   pub capacity : ℕ
@@ -22,6 +23,7 @@ pub record Contents : Type 0 where
   pub deny : List ℕ
   pub events : List Timed
 
+-- what the script of this value says
 abbrev pub contents_of : Script → Contents
 contents_of s = record {
   mac = s.config.mac;
@@ -34,6 +36,7 @@ contents_of s = record {
 
 -- ---- the texts of the lines
 
+-- whether something is on
 abbrev pub switch_word : Bool → List ℕ
 switch_word true = codes "on"
 switch_word false = codes "off"
@@ -43,27 +46,35 @@ abbrev pub deny_word : List ℕ → List ℕ
 deny_word [] = codes "none"
 deny_word (e ∷ es) = join_with_byte 44 (map ethertype_word (e ∷ es))
 
+-- the first line
 abbrev pub version_line : List ℕ
 version_line = codes "apf 1"
 
+-- the second
 abbrev pub mac_line : List ℕ → List ℕ
 mac_line mac = codes "mac " ++ mac_word mac
 
+-- the third
 abbrev pub capacity_line : ℕ → List ℕ
 capacity_line n = codes "capacity " ++ decimal n
 
+-- the fourth
 abbrev pub start_line : ℕ → List ℕ
 start_line n = codes "start " ++ decimal n
 
+-- the fifth
 abbrev pub drop_line : Bool → List ℕ
 drop_line on = codes "drop802 " ++ switch_word on
 
+-- the sixth
 abbrev pub deny_line : List ℕ → List ℕ
 deny_line deny = codes "deny " ++ deny_word deny
 
+-- this end of the connection
 abbrev pub local_end : Keepalive → Endpoint
 local_end sent = record { ip = sent.local; port = sent.local_port }
 
+-- the other end
 abbrev pub remote_end : Keepalive → Endpoint
 remote_end sent = record { ip = sent.remote; port = sent.remote_port }
 
@@ -77,6 +88,7 @@ keepalive_words slot sent =
     ∷ decimal sent.acknowledgement
     ∷ []
 
+-- what changes
 abbrev pub update_text : Update → List ℕ
 update_text (updates.Multicast on) = codes "multicast " ++ switch_word on
 update_text (updates.Doze on) = codes "doze " ++ switch_word on
@@ -85,6 +97,7 @@ update_text (updates.Address (Some a)) = codes "address " ++ address_word a
 update_text (updates.KeepaliveAdd slot sent) = codes "keepalive add " ++ join_with_byte 32 (keepalive_words slot sent)
 update_text (updates.KeepaliveRemove slot) = codes "keepalive remove " ++ decimal slot
 
+-- when it changes, and what
 abbrev pub event_line : Timed → List ℕ
 event_line e = codes "at " ++ decimal e.time ++ codes " " ++ update_text e.update
 
@@ -105,21 +118,26 @@ lines_saying c = first_lines c ++ map event_line c.events
 
 -- ---- the values that may stand in them
 
+-- six bytes
 pub record IsMac (mac : List ℕ) : Type 0 where
   pub six : length mac ≡ 6
   pub fit : IsBytes mac
 
+-- the bytes of a device
 pub record IsCapacity (n : ℕ) : Type 0 where
   pub least : 128 ≤ n
   pub most : n ≤ 8192
 
+-- at most 32 numbers of 16 bits
 pub record IsDeny (deny : List ℕ) : Type 0 where
   pub few : length deny ≤ 32
   pub fit : All (λ e. e < 2 ^ 16) deny
 
+-- a number of 32 bits
 abbrev pub IsWord : ℕ → Type 0
 IsWord n = n < 2 ^ 32
 
+-- numbers of 32 bits, and ports of 16
 pub record IsKeepalive (sent : Keepalive) : Type 0 where
   pub local : IsWord sent.local
   pub local_port : sent.local_port < 2 ^ 16
@@ -137,6 +155,7 @@ IsUpdate (updates.Address (Some a)) = IsWord a.ip × (a.prefix ≤ 255)
 IsUpdate (updates.KeepaliveAdd slot sent) = IsWord slot × IsKeepalive sent
 IsUpdate (updates.KeepaliveRemove slot) = IsWord slot
 
+-- an event at a second
 abbrev pub IsEvent : Timed → Type 0
 IsEvent e = IsWord e.time × IsUpdate e.update
 

@@ -35,6 +35,7 @@ Gives None old number new = (old ≡ []) × (new ≡ [])
 unfoldable pub behind : List ℕ → List ℕ → Option (List ℕ)
 behind front line = if bytes_eq (take (length front) line) front then Some (drop (length front) line) else None
 
+-- whether the word says that something is on
 unfoldable pub switch_of : List ℕ → Option Bool
 switch_of word = if bytes_eq word (codes "on") then Some true else if bytes_eq word (codes "off") then Some false else None
 
@@ -66,35 +67,44 @@ abbrev pub few_of : Option (List ℕ) → Option (List ℕ)
 few_of (Some deny) = if nat_le (length deny) 32 then Some deny else None
 few_of None = None
 
+-- none, or some ethertypes
 unfoldable pub deny_of : List ℕ → Option (List ℕ)
 deny_of word = if bytes_eq word (codes "none") then Some [] else few_of (ethertypes_of word)
 
+-- a number from a limit on
 abbrev pub at_least : ℕ → ℕ → Option ℕ
 at_least limit n = if nat_le limit n then Some n else None
 
+-- the first of the six lines says nothing but the format
 unfoldable pub version_read : List ℕ → Option (Unit {0})
 version_read line = if bytes_eq line version_line then Some tt else None
 
+-- the second
 unfoldable pub mac_read : List ℕ → Option (List ℕ)
 mac_read line = behind (codes "mac ") line >>= mac_of
 
+-- the third
 unfoldable pub capacity_read : List ℕ → Option ℕ
 capacity_read line = do
   word ← behind (codes "capacity ") line
   n ← number_of 8192 word
   at_least 128 n
 
+-- the fourth
 unfoldable pub start_read : List ℕ → Option ℕ
 start_read line = behind (codes "start ") line >>= number_of 4294967295
 
+-- the fifth
 unfoldable pub drop_read : List ℕ → Option Bool
 drop_read line = behind (codes "drop802 ") line >>= switch_of
 
+-- the sixth
 unfoldable pub deny_read : List ℕ → Option (List ℕ)
 deny_read line = behind (codes "deny ") line >>= deny_of
 
 -- ---- events
 
+-- a slot and a keepalive
 unfoldable pub added_read : List ℕ → Option Update
 added_read text = do
   a ← cut_of 32 text
@@ -115,6 +125,7 @@ added_read text = do
     acknowledgement = acknowledgement;
   }))
 
+-- none, or an address
 unfoldable pub address_read : List ℕ → Option Update
 address_read word = if bytes_eq word (codes "none") then Some (updates.Address None) else (address_of word >>= λ a. Some (updates.Address (Some a)))
 
@@ -123,6 +134,7 @@ abbrev pub tried : Option (List ℕ) → (List ℕ → Option Update) → Option
 tried (Some word) read other = read word
 tried None read other = other
 
+-- what an event changes
 unfoldable pub update_of : List ℕ → Option Update
 update_of text =
     tried (behind (codes "multicast ") text) (λ word. switch_of word >>= λ on. Some (updates.Multicast on))
@@ -132,6 +144,7 @@ update_of text =
     (tried (behind (codes "keepalive remove ") text) (λ word. number_of 4294967295 word >>= λ slot. Some (updates.KeepaliveRemove slot))
     None))))
 
+-- the event of a line
 unfoldable pub event_of : List ℕ → Option Timed
 event_of line = do
   text ← behind (codes "at ") line
@@ -148,6 +161,7 @@ abbrev pub ◌>>>◌ : {A B : Type 0} → Result A ScriptError → (A → Result
 (Ok x) >>> f = f x
 (Err e) >>> f = Err e
 
+-- what was read, or a line of another form
 abbrev pub or_form : {A : Type 0} → Option A → ℕ → Result A ScriptError
 or_form (Some x) number = Ok x
 or_form None number = Err (Bad number Form)
@@ -174,6 +188,7 @@ head_contents config start = record { mac = config.mac; capacity = config.capaci
 
 -- ---- the events
 
+-- an event that isn't earlier than the latest time
 abbrev pub in_time : ℕ → ℕ → Timed → Result Timed ScriptError
 in_time latest number e = if nat_lt e.time latest then Err (Bad number Order) else Ok e
 
@@ -181,16 +196,19 @@ in_time latest number e = if nat_lt e.time latest then Err (Bad number Order) el
 abbrev pub event_answer : ℕ → ℕ × List ℕ → Result Timed ScriptError
 event_answer latest l = or_form (event_of l.1) l.0 >>> in_time latest l.0
 
+-- events with others before them
 abbrev pub with_front : List Timed → Result (List Timed) ScriptError → Result (List Timed) ScriptError
 with_front front (Ok events) = Ok (front ++ events)
 with_front front (Err e) = Err e
 
+-- the events of the lines, none of which is earlier than the latest time before them
 unfoldable pub events_from : ℕ → List (ℕ × List ℕ) → Result (List Timed) ScriptError
 events_from latest [] = Ok []
 events_from latest (l ∷ lines) = event_answer latest l >>> λ e. with_front (e ∷ []) (events_from e.time lines)
 
 -- ---- the whole
 
+-- what the lines say, where the number of all lines and one is known
 unfoldable pub contents_from : ℕ → List (ℕ × List ℕ) → Result Contents ScriptError
 contents_from at_end lines =
     first_six at_end lines >>> λ six.

@@ -76,4 +76,3 @@ pub(crate) fn drop_802_3(line: &[u8]) -> Option<bool>
 {
     switch(behind(b"drop802 ", line)?)
 }
-

@@ -151,7 +151,9 @@ fn frame_text(alloc: Global, k: u64, lane: Option<u32>, a: &Answer) -> Result<St
     let (number, age, steps) = (a.number, a.age, a.steps);
     let verdict = verdict_word(a.verdict);
     let counter = counter_word(a.counter);
-    let text = format!(in alloc; "frame {k}{lane} gen {number} age {age} {verdict} {counter} steps {steps}\n")?;
+    let text = format!(in alloc;
+        "frame {k}{lane} gen {number} age {age} {verdict} {counter} steps {steps}\n"
+    )?;
     Ok(text)
 }
 
@@ -209,12 +211,7 @@ fn ra_text(alloc: Global, k: u64, reply: RaReply) -> Result<String, OutOfMemory>
 }
 
 /// Appends the line of an advertisement: the frame's number, which counts from 1, and what came of it.
-pub fn print_ra(
-    alloc: Global,
-    k: u64,
-    r: &RaReply,
-    out: &mut List<u8>,
-) -> Result<(), OutOfMemory>
+pub fn print_ra(alloc: Global, k: u64, r: &RaReply, out: &mut List<u8>) -> Result<(), OutOfMemory>
     requires advertisement { r.now ≢ RaReply.Bad NotRa }
     requires memory { r.now ≢ RaReply.Bad NoMemory }
     ensures ok { OnOk result (out.new ≡ out.old ++ ra_line k r.now) }

@@ -28,11 +28,7 @@ fn event_at(latest: u32, number: u32, line: &[u8]) -> Result<Timed, ScriptError>
 }
 
 /// The events of the lines that are left, none of which is earlier than the start.
-fn read_events(
-    alloc: Global,
-    start: u32,
-    lines: &mut Lines<'_>,
-) -> Result<List<Timed>, ScriptError>
+fn read_events(alloc: Global, start: u32, lines: &mut Lines<'_>) -> Result<List<Timed>, ScriptError>
     ensures { Tells (λ events. events) result (events_from start (left lines.old)) }
 {
     let mut events = List::new(alloc);

@@ -27,6 +27,7 @@ pub enum ScriptError {
     /// The first fault in the order of lines, which are counted from 1.
     #[error("line {line}: {kind}")]
     Bad { line: u32, kind: ScriptKind },
+    /// Memory ran out.
     #[error("out of memory")]
     OutOfMemory,
 }

@@ -9,11 +9,7 @@ use std::alloc::{AllocError, Global};
 
 /// Adds the line of a counter that isn't 0.
 #[tactic(auto, unfolding(crate::specs::Report::counter_line))]
-fn add_counter(
-    text: &mut String,
-    memory: &[u8; 128],
-    counter: Counter,
-) -> Result<(), AllocError>
+fn add_counter(text: &mut String, memory: &[u8; 128], counter: Counter) -> Result<(), AllocError>
     ensures { OnOk result (string_bytes text.new ≡ string_bytes text.old ++ counter_line memory.now counter) }
 {
     let value = get(memory, counter);
@@ -45,12 +41,7 @@ fn counter_texts(alloc: Global, memory: &[u8; 128]) -> Result<String, AllocError
 }
 
 #[tactic(auto, unfolding(crate::specs::Report::total_line))]
-fn add_total(
-    text: &mut String,
-    frames: u64,
-    passed: u64,
-    programs: u64,
-) -> Result<(), AllocError>
+fn add_total(text: &mut String, frames: u64, passed: u64, programs: u64) -> Result<(), AllocError>
     requires { passed ≤ frames }
     ensures { OnOk result (string_bytes text.new ≡ string_bytes text.old ++ total_line frames passed programs) }
 {

@@ -6,7 +6,7 @@ use Rattle.script_text.proofs.head.read_head.Goals as goal
 pub returns-in_err-version_line : goal.returns-in_err-version_line
 returns-in_err-version_line c =
     let p = err_from_is_err_and c.from_residual.result c.from_residual.ensures.1 in
-    rw (p.1, p.2) (told_version c.in_err-version_line.field-0.0 _ _   c.in_err-version_line.ensures.line)
+    rw (p.1, p.2) (told_version c.in_err-version_line.field-0.0 _ _ c.in_err-version_line.ensures.line)
 
 pub returns-in_err-mac : goal.returns-in_err-mac
 returns-in_err-mac c =
