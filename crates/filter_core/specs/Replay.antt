@@ -1,6 +1,6 @@
 -- The replay of a script over frames: what a report tells, entry by entry. No code, no memory and no bytes of a program
 -- stand here.
-use Rattle.std.specs.Prelude.{ℕ, ◌+◌, ◌==◌, nat_le, Bool, true, false, ◌&&◌, if◌then◌else◌, List, [], ◌∷◌, ◌++◌, length, drop, fold, flat_map, count_by}
+use Rattle.std.specs.Prelude.{◌≡◌, ℕ, ◌+◌, ◌==◌, nat_le, Bool, true, false, ◌&&◌, if◌then◌else◌, List, [], ◌∷◌, ◌++◌, length, drop, fold, flat_map, count_by}
 use Rattle.apf_coding.specs.declared.machine.Verdict.{Verdict}
 use Rattle.apf_coding.specs.declared.machine.Verdict.TheVariants.{Pass, Drop}
 use Rattle.data_counters.specs.Counters.{all_counters}
@@ -127,6 +127,17 @@ abbrev pub totals : List Entry → List Entry
 totals told =
     let answers = answers_of told in
     flat_map (counted_in answers) all_counters ++ total (length answers) (passed answers) (length (installs_of told)) ∷ []
+
+-- Installs are numbered from a number on, and each answer is by the install that is told last before it, of which there
+-- were so many.
+abbrev pub AreByLast : ℕ → List Entry → Type 0
+AreByLast programs [] = Unit {0}
+AreByLast programs (install i ∷ later) = (i.number ≡ programs) × AreByLast (programs + 1) later
+AreByLast programs (answer k a ∷ later) = (a.number + 1 ≡ programs) × AreByLast programs later
+AreByLast programs (reply r clock ∷ later) = AreByLast programs later
+AreByLast programs (learnt k r ∷ later) = AreByLast programs later
+AreByLast programs (counted c n ∷ later) = AreByLast programs later
+AreByLast programs (total frames passed installs ∷ later) = AreByLast programs later
 
 -- ---- the whole
 
