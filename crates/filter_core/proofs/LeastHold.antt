@@ -1,5 +1,5 @@
 -- The least hold, as far as a loop has come.
-use Rattle.std.proofs.Common.{◌≡◌, ℕ, min, Option, Some, None, refl, ap, arith}
+use Rattle.std.proofs.Common.{◌≡◌, ℕ, Option, Some, None, refl, ap, arith}
 use Rattle.filter_core.specs.Installs.{lesser}
 
 -- the least of what was seen and what is left

@@ -1,5 +1,5 @@
 -- What the calls of a core do.
-use Rattle.std.specs.Prelude.{◌≡◌, ℕ, ◌+◌, Bool, true, false}
+use Rattle.std.specs.Prelude.{◌≡◌, ◌+◌, Bool, true, false}
 use Rattle.policy_state.specs.declared.basis.UpdateReply.{UpdateReply}
 use Rattle.policy_state.specs.declared.basis.UpdateReply.TheVariants as updates
 use Rattle.ra_records.specs.declared.replies.RaReply.{RaReply}

@@ -1,5 +1,5 @@
 -- An install, without its code: what its program is made from, and what is left out of it for want of room.
-use Rattle.std.specs.Prelude.{ℕ, ◌+◌, ◌-◌, ◌≤◌, nat_le, min, if◌then◌else◌, List, [], ◌∷◌, map, take, drop, Option, Some, None, option_map}
+use Rattle.std.specs.Prelude.{ℕ, ◌+◌, ◌-◌, nat_le, min, if◌then◌else◌, List, [], ◌∷◌, map, take, drop, Option, Some, None, option_map}
 use Rattle.policy_state.specs.declared.basis.Basis.{Basis}
 use Rattle.policy_state.specs.declared.basis.Chosen.{Chosen}
 use Rattle.policy_state.specs.declared.config.Config.{Config}

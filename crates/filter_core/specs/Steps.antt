@@ -1,6 +1,6 @@
 -- The steps of a filter: an update of its state, an advertisement, a frame. No code, no memory and no bytes of a program
 -- stand here.
-use Rattle.std.specs.Prelude.{ℕ, ◌∷◌, ◌+◌, ◌-◌, ◌==◌, nat_lt, max, Bool, true, false, if◌then◌else◌, List, [], slice_index, Option, Some, None, Result, Ok, Err}
+use Rattle.std.specs.Prelude.{ℕ, ◌+◌, ◌-◌, ◌==◌, nat_lt, max, Bool, false, if◌then◌else◌, List, [], slice_index, Option, Some, None, Result, Ok, Err}
 use Rattle.policy_state.specs.declared.basis.UpdateReply.{UpdateReply}
 use Rattle.policy_state.specs.declared.basis.UpdateReply.TheVariants as updates
 use Rattle.policy_state.specs.declared.config.Config.{Config}

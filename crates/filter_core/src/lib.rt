@@ -6,9 +6,16 @@
 
 mod ending;
 mod install;
+mod laws;
 mod living;
 mod making;
 mod records;
+mod sharing;
 
 pub use install::Install;
+pub use laws::{
+    answers_are_by_the_last_install, counters_count_answers, longest_prefix_is_chosen,
+    programs_mean_their_basis,
+};
 pub use living::{Core, StartError};
+pub use sharing::types_are_shared;
