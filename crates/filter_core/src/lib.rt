@@ -11,6 +11,8 @@ mod living;
 mod making;
 mod records;
 mod sharing;
+#[cfg(test)]
+mod tests;
 
 pub use install::Install;
 pub use laws::{
