@@ -1,4 +1,5 @@
 pub mod Answering
+pub mod Causes
 pub mod Counting
 pub mod LeastHold
 pub mod Numbering

@@ -49,7 +49,7 @@ effect_counts f false (Ok state) =
     let limit = limit_of (config_of f) in
     state_counts (nat_lt limit need) f state need limit
 
-updated_counts : (f : Filter) (u : Update) (now : ℕ) → UpdateCounts f (updated f u now)
+pub updated_counts : (f : Filter) (u : Update) (now : ℕ) → UpdateCounts f (updated f u now)
 updated_counts f u now = effect_counts (moved f now) (is_same f.install.basis.state u) (after f.install.basis.state u)
 
 abbrev AdvertCounts : Filter → Filter × RaReply → Type 0
@@ -80,7 +80,7 @@ reading_counts f frame (Ok seen) =
     let left = standing f.clock f.held in
     match_counts (record f { held = left }) seen (match_of frame left)
 
-advertised_counts : (f : Filter) (frame : List ℕ) (now : ℕ) → AdvertCounts f (advertised f frame now)
+pub advertised_counts : (f : Filter) (frame : List ℕ) (now : ℕ) → AdvertCounts f (advertised f frame now)
 advertised_counts f frame now = let g = moved f now in reading_counts g frame (advert frame g.clock)
 
 -- ---- entries
