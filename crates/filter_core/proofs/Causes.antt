@@ -1,5 +1,5 @@
 -- When replies to updates and to advertisements come.
-use Rattle.std.proofs.Common.{◌≡◌, ◌≢◌, ◌↔◌, ℕ, ◌<◌, ◌≤◌, ◌+◌, ◌==◌, nat_lt, max, Bool, true, false, cond, List, Option, Some, None, slice_index, length, Result, Ok, Err, refl, sym, ap, ◌∙◌, arith, rules, lt-ltb, le-ltb, ltb-true}
+use Rattle.std.proofs.Common.{◌≡◌, ◌≢◌, ◌↔◌, ℕ, ◌<◌, ◌+◌, ◌==◌, nat_lt, max, Bool, true, false, cond, List, Option, Some, None, slice_index, length, Result, Ok, Err, refl, sym, ap, ◌∙◌, arith, lt-ltb, ltb-true}
 use Rattle.std.proofs.lemmas.Grind.{common_steps}
 use Rattle.policy_state.specs.declared.basis.UpdateReply.{UpdateReply}
 use Rattle.policy_state.specs.declared.basis.UpdateReply.TheVariants as updates
@@ -71,7 +71,7 @@ refused_exactly f u now refusal = refused_reply (moved f now) (is_same (state_of
 
 -- the reply to a new state
 new_state : (f : Filter) (same : Bool) (r : Result FilterState StateError) (state : FilterState) → r ≡ Ok state → (answer_of same r ≡ Ok No → ⊥) →
-  (by_state f same r).1 ≡ (with_state f state).1
+    (by_state f same r).1 ≡ (with_state f state).1
 new_state f same (Err refusal) state e ne = absurd cc
 new_state f true (Ok other) state e ne = absurd (ne refl)
 new_state f false (Ok other) state e ne = let same : other ≡ state = cc in ap (λ (s : FilterState). (with_state f s).1) same
@@ -81,7 +81,7 @@ not_above true need limit e = (λ _. ltb-true limit need e, λ _. refl)
 not_above false need limit e = (λ h. absurd cc, λ lt. let above = lt-ltb limit need lt in absurd cc)
 
 pub not_installed_exactly : (f : Filter) (u : Update) (now : ℕ) (state : FilterState) → length (state_of f).keepalives ≡ 8 → after (state_of f) u ≡ Ok state → state ≢ state_of f →
-  ((updated f u now).1 ≡ updates.NotInstalled (base (config_of f) state) (limit_of (config_of f))) ↔ (limit_of (config_of f) < base (config_of f) state)
+    ((updated f u now).1 ≡ updates.NotInstalled (base (config_of f) state) (limit_of (config_of f))) ↔ (limit_of (config_of f) < base (config_of f) state)
 not_installed_exactly f u now state eight e ne =
     let no = no_is_same (state_of f) u eight in
     let other : (updated f u now).1 ≡ (with_state (moved f now) state).1 = new_state (moved f now) (is_same (state_of f) u) (after (state_of f) u) state e (λ n. ne (let s = no.0 n in cc)) in
@@ -96,7 +96,7 @@ again_not_bad true f g id refusal e = absurd cc
 again_not_bad false f g id refusal e = absurd cc
 
 first_not_bad : (full none : Bool) (f g : Filter) (id : ℕ) (refusal : RaError) →
-  (cond {A = Filter × RaReply} full (f, adverts.Full) (cond none (f, adverts.ZeroLifetime) (g, adverts.New id))).1 ≢ adverts.Bad refusal
+    (cond {A = Filter × RaReply} full (f, adverts.Full) (cond none (f, adverts.ZeroLifetime) (g, adverts.New id))).1 ≢ adverts.Bad refusal
 first_not_bad true none f g id refusal e = absurd cc
 first_not_bad false true f g id refusal e = absurd cc
 first_not_bad false false f g id refusal e = absurd cc

@@ -15,6 +15,9 @@ mod sharing;
 mod tests;
 
 pub use install::Install;
-pub use laws::{answers_are_by_the_last_install, counters_count_answers, longest_prefix_is_chosen, programs_mean_their_basis, steps_count_their_installs, update_replies_have_causes};
+pub use laws::{
+    answers_are_by_the_last_install, counters_count_answers, longest_prefix_is_chosen,
+    programs_mean_their_basis, steps_count_their_installs, update_replies_have_causes,
+};
 pub use living::{Core, StartError};
 pub use sharing::types_are_shared;
