@@ -129,6 +129,7 @@ fn check_run(
     }
     let mut left = *memory;
     assert!(rt; frame.len() <= 1514);
+    assert!(rt; code.len() <= 1920);
     let outcome = interpret(code, &mut left, frame, age);
     assert_eq!(rt; outcome.verdict, verdict);
     assert_eq!(rt; left, expected);
