@@ -1,5 +1,5 @@
 -- Events are the texts of what they say.
-use Rattle.std.proofs.Common.{◌≡◌, ℕ, ◌+◌, ◌^◌, ◌<◌, ◌≤◌, Bool, true, false, cond, eqb, List, [], ◌∷◌, ◌++◌, length, Option, Some, None, refl, sym, ap, subst, ◌∙◌, append_assoc, arith, rules, inl, inr}
+use Rattle.std.proofs.Common.{◌≡◌, ℕ, ◌^◌, ◌<◌, ◌≤◌, Bool, true, false, cond, eqb, List, [], ◌∷◌, ◌++◌, Option, Some, None, refl, sym, ap, subst, ◌∙◌, append_assoc, arith, rules, inl, inr}
 use Rattle.std.specs.Prelude.{codes, ◌⊎◌}
 use Rattle.std.specs.Str.{bytes_eq}
 use Rattle.std.specs.Char.{is_ascii_digit}
@@ -18,13 +18,13 @@ use Rattle.policy_state.specs.declared.update.Update.{Update}
 use Rattle.policy_state.specs.declared.update.Update.TheVariants as updates
 use Rattle.policy_state.specs.declared.basis.Timed.{Timed}
 use Rattle.script_text.specs.declared.words.Endpoint.{Endpoint}
-use Rattle.script_text.specs.Words.{ip_word, address_word, endpoint_word, SpellsAddress, SpellsEndpoint}
+use Rattle.script_text.specs.Words.{ip_word, address_word, endpoint_word}
 use Rattle.script_text.specs.WordReading.{number_of, cut_of, address_of, endpoint_of}
 use Rattle.script_text.specs.ScriptLines.{switch_word, keepalive_words, update_text, event_line, local_end, remote_end, IsWord, IsKeepalive, IsUpdate, IsEvent}
 use Rattle.script_text.specs.ScriptReading.{behind, switch_of, added_read, address_read, tried, update_of, event_of}
-use Rattle.script_text.proofs.Exactness.{Exact, exact-same, bind_some, if_some, some_inj}
+use Rattle.script_text.proofs.Exactness.{Exact, bind_some, some_inj}
 use Rattle.script_text.proofs.AddressWords.{lacks, digits_lack, ip_word_passes, cut_found, cut_of-parts, address_exact, endpoint_exact}
-use Rattle.script_text.proofs.LineWords.{is_text, text_is_other, behind_found, behind-front, behind_exact, word_exact, switch_exact}
+use Rattle.script_text.proofs.LineWords.{is_text, text_is_other, behind_found, behind-front, word_exact, switch_exact}
 
 -- ---- words without blanks
 

@@ -1,9 +1,9 @@
 -- What the grammar says of a text is what the function that computes says.
-use Rattle.std.proofs.Common.{◌≡◌, ℕ, zero, suc, ◌+◌, ◌<◌, ◌≤◌, Bool, true, false, List, [], ◌∷◌, ◌++◌, length, Option, Some, None, Result, Ok, Err, refl, sym, ap, subst, ◌∙◌, append_assoc, arith, rules, inl, inr}
-use Rattle.std.specs.Prelude.{map, All, ◌⊎◌, IfOk}
+use Rattle.std.proofs.Common.{◌≡◌, ℕ, zero, suc, ◌+◌, ◌<◌, ◌≤◌, Bool, false, List, [], ◌∷◌, ◌++◌, length, Option, None, Result, Ok, Err, refl, sym, ap, subst, ◌∙◌, append_assoc, arith, inl, inr}
+use Rattle.std.specs.Prelude.{map, ◌⊎◌, IfOk}
 use Rattle.std.specs.List.{AllByRecursion}
 use Rattle.std.proofs.Math.Bridge.{le_prop}
-use Rattle.std.proofs.lemmas.List.{append-nil, map-append}
+use Rattle.std.proofs.lemmas.List.{append-nil}
 use Rattle.std.proofs.lemmas.List.Elements.{All-from_recursion, recursion_from_All}
 use Rattle.policy_state.specs.declared.config.Config.{Config}
 use Rattle.policy_state.specs.declared.basis.Script.{Script}
@@ -13,12 +13,12 @@ use Rattle.script_text.specs.declared.script_error.ScriptError.TheVariants.{Bad,
 use Rattle.script_text.specs.declared.script_error.ScriptKind.{ScriptKind}
 use Rattle.script_text.specs.declared.script_error.ScriptKind.TheVariants.{Form, Order, End}
 use Rattle.script_text.specs.ScriptLines.{Contents, contents_of, version_line, mac_line, capacity_line, start_line, drop_line, deny_line, event_line, first_lines, lines_saying, IsMac, IsCapacity, IsDeny, IsWord, IsEvent, lines_of, kept_lines}
-use Rattle.script_text.specs.Scripts.{IsSound, Says, IsScriptText, IsOfForm, BeginsScript, FaultsAt, EndsEarly, Refuses}
+use Rattle.script_text.specs.Scripts.{IsSound, Says, IsScriptText, IsOfForm, BeginsScript, Refuses}
 use Rattle.script_text.specs.ScriptReading.{◌>>>◌, first, first_six, event_answer, with_front, events_from, contents_from, script_answer, Tells, version_read, mac_read, capacity_read, start_read, drop_read, deny_read}
 use Rattle.script_text.proofs.Exactness.{exact-none_spelled, exact-refused}
 use Rattle.script_text.proofs.DigitWords.{bytes-cons}
 use Rattle.script_text.proofs.LineWords.{version_exact, mac_line_exact, capacity_line_exact, start_line_exact, drop_line_exact, deny_line_exact}
-use Rattle.script_text.proofs.Grammar.{Kept, texts, Chain, last_time, chain_in_order, in_order_chain, chain_front, all_front, late_is, late_again, bind_okay, bind_failed, ok_inj, err_inj, cons_head, cons_tail, first_is, first_fails, event_form, event_order, EventsAre, events_is, events_on, EventsFail, events_fail, Head, head, sound_head, six_on, six_is, read_version, read_mac, read_capacity, read_start, read_dropped, read_deny}
+use Rattle.script_text.proofs.Grammar.{Kept, texts, Chain, last_time, chain_in_order, in_order_chain, chain_front, all_front, late_is, late_again, bind_okay, bind_failed, ok_inj, err_inj, cons_head, cons_tail, first_is, first_fails, event_form, event_order, EventsAre, events_is, events_on, EventsFail, events_fail, Head, head, sound_head, six_on, six_is, read_version, read_mac, read_capacity, read_start, read_dropped}
 
 -- ---- scripts
 

@@ -1,9 +1,8 @@
 -- The lines of scripts, as the texts of what they say. This project's own format.
-use Rattle.std.specs.Prelude.{◌≡◌, ℕ, ◌^◌, ◌<◌, ◌≤◌, ◌||◌, ◌==◌, Bool, true, false, not, if◌then◌else◌, List, [], ◌∷◌, ◌++◌, length, map, filter, slice_index, codes, All, Option, Some, None}
+use Rattle.std.specs.Prelude.{◌≡◌, ℕ, ◌^◌, ◌<◌, ◌≤◌, ◌||◌, ◌==◌, Bool, true, false, not, if◌then◌else◌, List, [], ◌∷◌, ◌++◌, length, map, filter, slice_index, codes, All, Some, None}
 use Rattle.std.specs.Fmt.{decimal}
 use Rattle.std.specs.List.{join_with_byte, onto_first, enumerate_from}
 use Rattle.hex.specs.Hex.{IsBytes}
-use Rattle.policy_state.specs.declared.state.Address.{Address}
 use Rattle.policy_state.specs.declared.state.Keepalive.{Keepalive}
 use Rattle.policy_state.specs.declared.update.Update.{Update}
 use Rattle.policy_state.specs.declared.update.Update.TheVariants as updates

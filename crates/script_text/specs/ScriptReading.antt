@@ -1,9 +1,8 @@
 -- Scripts by functions that compute: what a text says, or its first fault.
-use Rattle.std.specs.Prelude.{◌≡◌, ℕ, ◌+◌, ◌&&◌, ◌==◌, nat_lt, nat_le, if◌then◌else◌, Bool, true, false, List, [], ◌∷◌, ◌++◌, length, take, drop, codes, Option, Some, None, Result, Ok, Err}
+use Rattle.std.specs.Prelude.{◌≡◌, ℕ, ◌+◌, ◌==◌, nat_lt, nat_le, if◌then◌else◌, Bool, true, false, List, [], ◌∷◌, ◌++◌, length, take, drop, codes, Option, Some, None, Result, Ok, Err}
 use Rattle.std.specs.Str.{bytes_eq}
 use Rattle.apf_coding.specs.Reading.{◌>>=◌}
 use Rattle.std.specs.Borrow.{Bor}
-use Rattle.policy_state.specs.declared.state.Keepalive.{Keepalive}
 use Rattle.policy_state.specs.declared.update.Update.{Update}
 use Rattle.policy_state.specs.declared.update.Update.TheVariants as updates
 use Rattle.policy_state.specs.declared.config.Config.{Config}
@@ -12,7 +11,7 @@ use Rattle.script_text.specs.declared.script_error.ScriptKind.TheVariants.{Form,
 use Rattle.script_text.specs.declared.script_error.ScriptError.{ScriptError}
 use Rattle.script_text.specs.declared.script_error.ScriptError.TheVariants.{Bad, OutOfMemory}
 use Rattle.script_text.specs.declared.lines.Lines.{Lines}
-use Rattle.script_text.specs.WordReading.{byte_of, number_of, mac_of, ethertype_of, cut_of, address_of, endpoint_of}
+use Rattle.script_text.specs.WordReading.{number_of, mac_of, ethertype_of, cut_of, address_of, endpoint_of}
 use Rattle.script_text.specs.ScriptLines.{Contents, lines_of, numbered, kept_lines, version_line}
 
 -- ---- the lines that are left

@@ -1,5 +1,5 @@
 -- Scripts: which text says what, and which line of a text is its first fault.
-use Rattle.std.specs.Prelude.{◌≡◌, ◌⊎◌, ℕ, zero, suc, ◌+◌, ◌<◌, ◌≤◌, Bool, List, [], ◌∷◌, ◌++◌, length, map, All, Any}
+use Rattle.std.specs.Prelude.{◌≡◌, ◌⊎◌, ℕ, zero, suc, ◌+◌, ◌<◌, ◌≤◌, Bool, List, ◌∷◌, ◌++◌, length, map, All, Any}
 use Rattle.std.specs.List.{AllPairs}
 use Rattle.policy_state.specs.declared.basis.Timed.{Timed}
 use Rattle.policy_state.specs.declared.basis.Script.{Script}

@@ -1,8 +1,8 @@
 -- Each turn takes an ethertype.
-use Rattle.std.proofs.Common.{ap, sym, ◌∙◌, arith, Some, None, ◌≡◌, length, ◌≤◌, List, ℕ, Option}
-use Rattle.std.specs.Option.{option_copied, option_map}
+use Rattle.std.proofs.Common.{ap, sym, ◌∙◌, arith, length, List, ℕ}
+use Rattle.std.specs.Option.{option_copied}
 use Rattle.std.proofs.lemmas.List.{length-append}
-use Rattle.script_text.specs.ScriptReading.{ethertypes_of, first_ethertype}
+use Rattle.script_text.specs.ScriptReading.{ethertypes_of}
 use Rattle.script_text.proofs.DenyLists.{turn, refused, rest_of, after_front}
 use Rattle.script_text.proofs.ethertypes.ethertypes.Goals as goal
 

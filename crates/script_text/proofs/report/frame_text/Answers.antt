@@ -1,5 +1,5 @@
 use Rattle.std.proofs.Common.{◌∙◌}
-use Rattle.std.specs.Prelude.{codes, string_bytes, length}
+use Rattle.std.specs.Prelude.{codes, string_bytes}
 use Rattle.std.specs.Fmt.{decimal}
 use Rattle.script_text.specs.Report.{frame_line}
 use Rattle.script_text.proofs.Pieces.{pieces-14}

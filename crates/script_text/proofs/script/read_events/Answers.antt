@@ -1,5 +1,5 @@
 -- Each turn takes an event.
-use Rattle.std.proofs.Common.{◌≡◌, List, ap, sym, ◌∙◌}
+use Rattle.std.proofs.Common.{List, ap, sym, ◌∙◌}
 use Rattle.std.proofs.lemmas.Result.{err_from_is_err_and}
 use Rattle.policy_state.specs.declared.basis.Timed.{Timed}
 use Rattle.script_text.specs.ScriptReading.{left, with_front, events_from}

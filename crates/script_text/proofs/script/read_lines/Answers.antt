@@ -1,7 +1,6 @@
 -- The first lines, and the events behind them.
-use Rattle.std.proofs.Common.{ap, sym, ◌∙◌, ℕ, List}
 use Rattle.std.proofs.lemmas.Result.{err_from_is_err_and}
-use Rattle.script_text.specs.ScriptReading.{left, contents_from, head_contents}
+use Rattle.script_text.specs.ScriptReading.{head_contents}
 use Rattle.script_text.proofs.Telling.{told_head, told_events, told_all}
 use Rattle.script_text.proofs.script.read_lines.Goals as goal
 

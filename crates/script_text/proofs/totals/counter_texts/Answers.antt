@@ -1,6 +1,5 @@
 -- Each turn adds the line of one counter.
 use Rattle.std.proofs.Common.{◌≡◌, ℕ, List, ◌+◌, ◌-◌, ◌++◌, sym, ap, ◌∙◌, arith}
-use Rattle.std.specs.Prelude.{string_bytes}
 use Rattle.script_text.specs.Report.{numbered_line}
 use Rattle.script_text.proofs.Counted.{counted, counted-more, counted-none, counted-all}
 use Rattle.script_text.proofs.totals.counter_texts.Goals as goal

@@ -1,5 +1,5 @@
 -- The lines that were passed are skipped.
-use Rattle.std.proofs.Common.{◌≡◌, ◌+◌, length}
+use Rattle.std.proofs.Common.{◌≡◌, length}
 use Rattle.script_text.specs.ScriptReading.{left, end_of}
 use Rattle.script_text.proofs.lines.Lines.next_line.Given as goal
 
