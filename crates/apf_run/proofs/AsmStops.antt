@@ -40,7 +40,7 @@ by_fault text end (TooLong input) late fails =
     let long : ltb 1048576 (length text) ≡ true = lt-ltb _ _ fails.1 in
     rw (fails.0, long) (inl refl)
 by_fault text end Usage late fails = absurd fails
-by_fault text end BadCapture late fails = absurd fails
+by_fault text end (BadCapture fault) late fails = absurd fails
 by_fault text end (BadText line kind) late fails = absurd fails
 by_fault text end (Twice item label) late fails = absurd fails
 by_fault text end (Unknown item label) late fails = absurd fails

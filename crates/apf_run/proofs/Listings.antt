@@ -52,7 +52,7 @@ writing_meets told old new (Err Write) done fails left =
       | inr found ↦ inr (omega arith, inr (map line_text found.0, (found.0, found.1, refl), found.2))
     ]
 writing_meets told old new (Err Usage) done fails left = absurd fails
-writing_meets told old new (Err BadCapture) done fails left = absurd fails
+writing_meets told old new (Err (BadCapture fault)) done fails left = absurd fails
 writing_meets told old new (Err (BadText line kind)) done fails left = absurd fails
 writing_meets told old new (Err (Twice item label)) done fails left = absurd fails
 writing_meets told old new (Err (Unknown item label)) done fails left = absurd fails

@@ -2,8 +2,9 @@
 use Rattle.std.proofs.Common.{◌≡◌, ◌⊎◌, ℕ, List, [], Option, None, Some, Result, Err, refl, sym, subst, ◌∙◌, inl, inr}
 use Rattle.std.specs.Io.KnownBytes.{Keeps}
 use Rattle.std.proofs.KnownBytes.{Appends-nil}
+use Rattle.pcap_files.specs.declared.fault.PcapError.{PcapError}
 use Rattle.apf_run.specs.declared.fault.Fault.{Fault}
-use Rattle.apf_run.specs.declared.fault.Fault.TheVariants.{OutOfMemory}
+use Rattle.apf_run.specs.declared.fault.Fault.TheVariants.{Usage, BadCapture, BadText, Twice, Unknown, Backward, TooLong, CodeTooLong, TooLarge, OutOfMemory, Read, Write, Open}
 use Rattle.apf_run.specs.Ends.{Meets, Stops, ComesFirst, exec_output}
 use Rattle.apf_run.specs.AsmEnds.{asm_output}
 
@@ -27,11 +28,23 @@ pub ends_there : (end : Result (Unit {0}) Fault) (fault : Fault) → (fault ≡ 
 ends_there end fault (inl lacks) = inr (subst (λ (f : Fault). ComesFirst end (Err f)) (sym lacks) tt)
 ends_there end fault (inr is) = inl is
 
--- with a fault no line is defined
-pub exec-no_lines : (program capture : Option (List ℕ)) (age : ℕ) (fault : Fault) → [] ≡ exec_output program capture age (Err fault)
-exec-no_lines None capture age fault = refl
-exec-no_lines (Some program) None age fault = refl
-exec-no_lines (Some program) (Some capture) age fault = refl
+-- with another fault than one of the capture no line is defined
+pub exec-no_lines : (program capture : Option (List ℕ)) (age : ℕ) (fault : Fault) → ((which : PcapError) → fault ≡ BadCapture which → ⊥) → [] ≡ exec_output program capture age (Err fault)
+exec-no_lines None capture age fault other = refl
+exec-no_lines (Some program) None age fault other = refl
+exec-no_lines (Some program) (Some capture) age (BadCapture which) other = absurd (other which refl)
+exec-no_lines (Some program) (Some capture) age Usage other = refl
+exec-no_lines (Some program) (Some capture) age (BadText line kind) other = refl
+exec-no_lines (Some program) (Some capture) age (Twice item label) other = refl
+exec-no_lines (Some program) (Some capture) age (Unknown item label) other = refl
+exec-no_lines (Some program) (Some capture) age (Backward item label) other = refl
+exec-no_lines (Some program) (Some capture) age (TooLong input) other = refl
+exec-no_lines (Some program) (Some capture) age CodeTooLong other = refl
+exec-no_lines (Some program) (Some capture) age (TooLarge need limit) other = refl
+exec-no_lines (Some program) (Some capture) age OutOfMemory other = refl
+exec-no_lines (Some program) (Some capture) age (Read input) other = refl
+exec-no_lines (Some program) (Some capture) age Write other = refl
+exec-no_lines (Some program) (Some capture) age (Open input) other = refl
 
 pub asm-no_lines : (text : Option (List ℕ)) (fault : Fault) → [] ≡ asm_output text (Err fault)
 asm-no_lines None fault = refl

@@ -1,5 +1,5 @@
 -- The lines that `exec` writes.
-use Rattle.std.specs.Prelude.{ℕ, ◌+◌, List, [], ◌∷◌, ◌++◌, codes, replicate}
+use Rattle.std.specs.Prelude.{ℕ, ◌+◌, Bool, true, false, List, [], ◌∷◌, ◌++◌, codes, replicate}
 use Rattle.std.specs.Fmt.{decimal}
 use Rattle.hex.specs.Hex.{encode_lower}
 use Rattle.apf_coding.specs.declared.machine.Outcome.{Outcome}
@@ -42,14 +42,19 @@ frame_line number outcome =
 unfoldable pub memory_line : List ℕ → List ℕ
 memory_line memory = codes "memory " ++ encode_lower memory ++ codes "\n"
 
--- The lines of the frames from this number on, each with the memory that the frame before left, and then the line of
--- the last memory.
-abbrev pub lines_from : List ℕ → ℕ → ℕ → List ℕ → List (List ℕ) → List (List ℕ)
-lines_from program age number memory [] = memory_line memory ∷ []
-lines_from program age number memory (frame ∷ frames) =
+-- behind the frames of a capture without a fault the line of the last memory
+abbrev pub closing : Bool → List ℕ → List (List ℕ)
+closing true memory = memory_line memory ∷ []
+closing false memory = []
+
+-- The lines of the frames from this number on, each with the memory that the frame before left, and what stands behind
+-- them.
+abbrev pub lines_from : Bool → List ℕ → ℕ → ℕ → List ℕ → List (List ℕ) → List (List ℕ)
+lines_from whole program age number memory [] = closing whole memory
+lines_from whole program age number memory (frame ∷ frames) =
     let done = run program memory frame age in
-    frame_line number done.outcome ∷ lines_from program age (number + 1) done.memory frames
+    frame_line number done.outcome ∷ lines_from whole program age (number + 1) done.memory frames
 
 -- a program over frames: frames count from 1, and the memory begins with 128 zeros
-abbrev pub exec_lines : List ℕ → List (List ℕ) → ℕ → List (List ℕ)
-exec_lines program frames age = lines_from program age 1 (replicate 128 0) frames
+abbrev pub exec_lines : Bool → List ℕ → List (List ℕ) → ℕ → List (List ℕ)
+exec_lines whole program frames age = lines_from whole program age 1 (replicate 128 0) frames

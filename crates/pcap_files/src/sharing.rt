@@ -1,6 +1,7 @@
 //! The types may be handed to and shared with other threads.
 
-use crate::kinds::{Kind, PcapError, Placed, Records, Stamp};
+use crate::fault::PcapError;
+use crate::kinds::{Kind, Placed, Records, Stamp};
 
 fn is_shared<T: Send + Sync>() {}
 

@@ -30,7 +30,7 @@ use Rattle.script_text.proofs.DigitWords.{bytes-cons}
 
 -- ---- cutting at a byte
 
-cut_found : (byte : ℕ) (word x y : List ℕ) → cut_of byte word ≡ Some (x, y) → word ≡ x ++ byte ∷ y
+pub cut_found : (byte : ℕ) (word x y : List ℕ) → cut_of byte word ≡ Some (x, y) → word ≡ x ++ byte ∷ y
 unfolding cut_of
 cut_found byte word x y e =
     let p = λ (b : ℕ). eqb b byte in
@@ -123,7 +123,7 @@ ip_exact word = record {
 own : IsNumeralModel (λ ds. list_all is_ascii_digit ds ≡ true) (digits_value 10)
 own = numerals_by_value _ (search rules)
 
-digits_lack : (byte : ℕ) (ds : List ℕ) → ((b : ℕ) → is_ascii_digit b ≡ true → lacks byte b ≡ true) → list_all is_ascii_digit ds ≡ true → list_all (lacks byte) ds ≡ true
+pub digits_lack : (byte : ℕ) (ds : List ℕ) → ((b : ℕ) → is_ascii_digit b ≡ true → lacks byte b ≡ true) → list_all is_ascii_digit ds ≡ true → list_all (lacks byte) ds ≡ true
 digits_lack byte [] one e = refl
 digits_lack byte (d ∷ ds) one e =
     let parts = and_parts (is_ascii_digit d) (list_all is_ascii_digit ds) e in
@@ -137,7 +137,7 @@ octet : (n : ℕ) → n < 256 → list_all is_ascii_digit (decimal n) ≡ true
 octet n lt = digits_decimal own n (omega arith)
 
 -- all bytes of an address pass a test that digits and the dot pass
-ip_word_passes : (q : ℕ → Bool) → ((ds : List ℕ) → list_all is_ascii_digit ds ≡ true → list_all q ds ≡ true) → q 46 ≡ true → (ip : ℕ) → list_all q (ip_word ip) ≡ true
+pub ip_word_passes : (q : ℕ → Bool) → ((ds : List ℕ) → list_all is_ascii_digit ds ≡ true → list_all q ds ≡ true) → q 46 ≡ true → (ip : ℕ) → list_all q (ip_word ip) ≡ true
 ip_word_passes q digits dot ip =
     let a = get_or (to_be_bytes w32 ip) 0 0 in
     let b = get_or (to_be_bytes w32 ip) 1 0 in

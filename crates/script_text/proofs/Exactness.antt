@@ -33,3 +33,15 @@ if_some false x y e = absurd cc
 
 pub some_inj : {A : Type 0} (x y : A) → Some x ≡ Some y → x ≡ y
 some_inj x y e = cc
+
+-- ---- from one spelling to another
+
+pub exact-none_spelled : {A : Type 0} (Spells : A → Type 0) (read : Option A) → Exact read Spells → read ≡ None → (value : A) → Spells value → ⊥
+exact-none_spelled Spells read e none value spelled = let some = e.only value spelled in absurd cc
+
+pub exact-refused : {A : Type 0} (Spells : A → Type 0) (read r : Option A) → Exact read Spells → read ≡ r → ((value : A) → Spells value → ⊥) → read ≡ None
+exact-refused Spells read (Some x) e same refused = absurd (refused x (e.found x same))
+exact-refused Spells read None e same refused = same
+
+pub exact-same : {A : Type 0} (S T : A → Type 0) (read : Option A) → Exact read S → ((x : A) → S x → T x) → ((x : A) → T x → S x) → Exact read T
+exact-same S T read e there back = record { found = λ x h. there x (e.found x h); only = λ x t. e.only x (back x t) }

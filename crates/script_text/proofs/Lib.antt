@@ -2,3 +2,13 @@ pub mod Exactness
 pub mod NumberWords
 pub mod DigitWords
 pub mod AddressWords
+pub mod LineSplitting
+pub mod DenyLists
+pub mod Telling
+pub mod LineWords
+pub mod EventWords
+pub mod Faults
+pub mod Grammar
+pub mod LeftWords
+pub mod Pieces
+pub mod Counted

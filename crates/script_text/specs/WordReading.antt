@@ -16,9 +16,11 @@ use Rattle.script_text.specs.declared.words.Endpoint.{Endpoint}
 abbrev pub is_numeral : List ℕ → Bool
 is_numeral word = if (length word == 0) || ((slice_index word 0 == 48) && nat_lt 1 (length word)) then false else list_all is_ascii_digit word
 
+-- a number up to a limit
 abbrev pub at_most : ℕ → ℕ → Option ℕ
 at_most limit n = if nat_le n limit then Some n else None
 
+-- the number up to a limit that digits spell
 unfoldable pub number_of : ℕ → List ℕ → Option ℕ
 number_of limit word = if is_numeral word then at_most limit (digits_value 10 word) else None
 
@@ -50,9 +52,11 @@ pairs_of (high ∷ low ∷ colon ∷ rest) = do
   bytes ← if colon == 58 then pairs_of rest else None
   Some (b ∷ bytes)
 
+-- the six bytes of a MAC
 unfoldable pub mac_of : List ℕ → Option (List ℕ)
 mac_of word = if length word == 17 then pairs_of word else None
 
+-- the ethertype of four digits
 unfoldable pub ethertype_of : List ℕ → Option ℕ
 ethertype_of (a ∷ b ∷ c ∷ d ∷ []) = do
   high ← byte_of a b
@@ -69,9 +73,11 @@ cut_of byte word =
     then Some (before_first (λ b. b == byte) word, after_first (λ b. b == byte) word)
     else None
 
+-- the address of four numbers with dots between them
 unfoldable pub ip_of : List ℕ → Option ℕ
 ip_of word = option_map (from_be_bytes w32) (whole_value (read_ipv4 word))
 
+-- what stands on both sides of the slash
 unfoldable pub address_of : List ℕ → Option Address
 address_of word = do
   parts ← cut_of 47 word
@@ -79,6 +85,7 @@ address_of word = do
   bits ← number_of 255 parts.1
   Some (record { ip = ip; prefix = bits })
 
+-- what stands on both sides of the colon
 unfoldable pub endpoint_of : List ℕ → Option Endpoint
 endpoint_of word = do
   parts ← cut_of 58 word

@@ -37,15 +37,18 @@ pub record SpellsNumber (limit : ℕ) (word : List ℕ) (n : ℕ) : Type 0 where
   pub most : n ≤ limit
   pub spelled : word ≡ decimal n
 
+-- six bytes
 pub record SpellsMac (word mac : List ℕ) : Type 0 where
   pub six : length mac ≡ 6
   pub fit : IsBytes mac
   pub spelled : word ≡ mac_word mac
 
+-- a number of 16 bits
 pub record SpellsEthertype (word : List ℕ) (e : ℕ) : Type 0 where
   pub fits : e < 2 ^ 16
   pub spelled : word ≡ ethertype_word e
 
+-- an address as a big-endian number
 pub record SpellsIp (word : List ℕ) (ip : ℕ) : Type 0 where
   pub fits : ip < 2 ^ 32
   pub spelled : word ≡ ip_word ip
@@ -56,6 +59,7 @@ pub record SpellsAddress (word : List ℕ) (a : Address) : Type 0 where
   pub «prefix» : a.prefix ≤ 255
   pub spelled : word ≡ address_word a
 
+-- an address and a port, which is a number of 16 bits
 pub record SpellsEndpoint (word : List ℕ) (e : Endpoint) : Type 0 where
   pub ip : e.ip < 2 ^ 32
   pub port : e.port < 2 ^ 16

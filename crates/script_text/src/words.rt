@@ -92,7 +92,7 @@ pub fn read_ethertype(word: &[u8]) -> Option<u16>
 
 /// What stands before the first such byte, and what stands behind it.
 #[tactic(auto, unfolding(crate::specs::WordReading::cut_of))]
-fn cut(word: &[u8], byte: u8) -> Option<(&[u8], &[u8])>
+pub(crate) fn cut(word: &[u8], byte: u8) -> Option<(&[u8], &[u8])>
     ensures { option_map (λ parts. (parts.0.now, parts.1.now)) result ≡ cut_of byte word.now }
 {
     let Some(at) = word.iter().position(|b| *b == byte) else {

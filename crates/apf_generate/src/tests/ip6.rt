@@ -1,6 +1,8 @@
 //! IPv6 packets, each cut at every length from 20 to 56 bytes.
 
 ghost use Rattle.std.specs.Prelude.{◌≤◌, length};
+ghost use Rattle.size_fit.specs.Sizes.{limit_of};
+ghost use Rattle.apf_generate.specs.Sizes.{need_of};
 
 use crate::generate;
 use crate::tests::is_answered;
@@ -97,7 +99,9 @@ fn packet_with(next: u8, kind: u8, destination: Destination) -> [u8; 56] {
 }
 
 /// A basis with nothing denied.
-fn basis_at(alloc: Global, setting: Setting) -> Basis {
+fn basis_at(alloc: Global, setting: Setting) -> Basis
+    ensures { need_of result ≤ limit_of result.config }
+{
     let mut state = FilterState::start();
     state.multicast = setting.0;
     state.doze = setting.1;

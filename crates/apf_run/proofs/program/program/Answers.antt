@@ -1,4 +1,4 @@
-use Rattle.std.proofs.Common.{[], ◌∷◌, Ok, Err, Some, refl, ap, ◌∙◌, subst, sym}
+use Rattle.std.proofs.Common.{[], ◌∷◌, Ok, Err, refl, ap, ◌∙◌, subst, sym}
 use Rattle.std.proofs.lemmas.Result.{err_from_is_err_and}
 use Rattle.apf_run.specs.ProgramText.{IsProgram}
 use Rattle.apf_run.specs.Tasks.{setting_of}

@@ -12,3 +12,6 @@ returns-clause-end c bytes = (capture-placed bytes).end
 
 pub returns-clause-fault : goal.returns-clause-fault
 returns-clause-fault c bytes = (capture-placed bytes).fault
+
+pub returns-clause-refused : goal.returns-clause-refused
+returns-clause-refused c bytes = (capture-placed bytes).refused

@@ -1,0 +1,6 @@
+pub mod Answering
+pub mod Causes
+pub mod Counting
+pub mod LeastHold
+pub mod Numbering
+pub mod Fitting

@@ -1,0 +1,69 @@
+//! The lines of a script.
+
+ghost use Rattle.std.specs.Prelude.{◌≡◌, ◌+◌, ◌<◌, ◌≤◌, ◌∷◌, length};
+ghost use Rattle.script_text.specs.ScriptLines.{lines_of, is_skipped};
+
+/// The first line, without its line feed, and the text behind it.
+fn first_line(text: &[u8]) -> (&[u8], &[u8])
+    requires { 0 < length text.now }
+    ensures lines { lines_of text.now ≡ result.0.now ∷ lines_of result.1.now }
+    ensures shorter { length result.1.now < length text.now }
+{
+    match text.iter().position(|b| *b == b'\n') {
+        Some(at) => (&text[..at], &text[at + 1..]),
+        None => (text, &[]),
+    }
+}
+
+/// Whether a line is empty or a comment.
+fn is_skipped(line: &[u8]) -> bool
+    ensures { result ≡ is_skipped line.now }
+{
+    line.is_empty() || line[0] == b'#'
+}
+
+/// The lines of a text that are left.
+#[derive(Drop)]
+pub(crate) struct Lines<'a> {
+    /// The number of lines that were taken.
+    pub(crate) number: u32,
+    pub(crate) rest: &'a [u8],
+    ghost few: { number + length rest.now ≤ 1048576 },
+}
+
+impl<'a> Lines<'a> {
+    ghost use Rattle.std.specs.Prelude.{IfNone, ◌≡◌, ◌+◌, ◌≤◌, length};
+    ghost use Rattle.script_text.specs.ScriptLines.{lines_of, kept_lines};
+    ghost use Rattle.script_text.specs.ScriptReading.{left, end_of, Gives};
+
+    /// All lines of a text.
+    pub(crate) fn new(text: &'a [u8]) -> Lines<'a>
+        requires { length text.now ≤ 1048576 }
+        ensures all { left result ≡ kept_lines text.now }
+        ensures end { end_of result ≡ length (lines_of text.now) + 1 }
+    {
+        Lines {
+            number: 0,
+            rest: text,
+        }
+    }
+
+    /// The next line that isn't skipped. The number is then its number, and at the end the number of all lines.
+    pub(crate) fn next_line(&mut self) -> Option<&'a [u8]>
+        ensures line { Gives result (left self.old) self.new.number (left self.new) }
+        ensures number { IfNone result (self.new.number + 1 ≡ end_of self.old) }
+        ensures end { end_of self.new ≡ end_of self.old }
+    {
+        while !self.rest.is_empty() {
+            let (line, rest) = first_line(self.rest);
+            *self = Lines {
+                number: self.number + 1,
+                rest,
+            };
+            if !is_skipped(line) {
+                return Some(line);
+            }
+        }
+        None
+    }
+}
