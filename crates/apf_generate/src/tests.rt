@@ -1,5 +1,8 @@
+mod ip4;
 mod ip6;
 mod ra;
+
+ghost use Rattle.std.specs.Prelude.{◌≤◌, length};
 
 use crate::generate;
 use apf_base::List;
@@ -43,6 +46,24 @@ fn memory_of(total: bool, counter: Option<Counter>) -> [u8; 128] {
         raise(&mut memory, counter);
     }
     memory
+}
+
+/// Whether code and policy answer a frame of more than 14 bytes so at an age, and raise this counter beside TOTAL_PACKETS.
+fn is_answered(
+    code: &[u8],
+    basis: &Basis,
+    age: u32,
+    frame: &[u8],
+    answer: (Verdict, Option<Counter>),
+) -> bool
+    requires code { length code.now ≤ 65535 }
+    requires frame { length frame.now ≤ 262144 }
+{
+    let mut memory = [0; 128];
+    let outcome = interpret(code, &mut memory, frame, age);
+    decide(basis, age, frame) == answer
+        && outcome.verdict == answer.0
+        && memory == memory_of(true, answer.1)
 }
 
 #[test]

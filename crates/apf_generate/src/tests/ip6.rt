@@ -5,12 +5,11 @@ ghost use Rattle.size_fit.specs.Sizes.{limit_of};
 ghost use Rattle.apf_generate.specs.Sizes.{need_of};
 
 use crate::generate;
-use crate::tests::memory_of;
+use crate::tests::is_answered;
 use apf_base::List;
 use apf_coding::Verdict::{self, Drop, Pass};
-use apf_interp::interpret;
 use data_counters::Counter::{self, *};
-use policy_state::{Basis, Config, FilterState, decide};
+use policy_state::{Basis, Config, FilterState};
 use std::alloc::Global;
 use std::test::Fail;
 
@@ -118,23 +117,6 @@ fn basis_at(alloc: Global, setting: Setting) -> Basis
     }
 }
 
-/// Whether code and policy give a packet this verdict and raise this counter beside TOTAL_PACKETS.
-fn is_answered(
-    code: &[u8],
-    basis: &Basis,
-    packet: &[u8],
-    answer: (Verdict, Option<Counter>),
-) -> bool
-    requires code { length code.now ≤ 65535 }
-    requires packet { length packet.now ≤ 56 }
-{
-    let mut memory = [0; 128];
-    let outcome = interpret(code, &mut memory, packet, 0);
-    decide(basis, 0, packet) == answer
-        && outcome.verdict == answer.0
-        && memory == memory_of(true, answer.1)
-}
-
 /// Whether each packet that is cut is answered so: it passes where it is shorter than what is needed.
 fn are_answered(code: &[u8], basis: &Basis, row: &Row) -> bool
     requires { length code.now ≤ 65535 }
@@ -146,7 +128,7 @@ fn are_answered(code: &[u8], basis: &Basis, row: &Row) -> bool
         } else {
             (row.4, Some(row.5))
         };
-        if !is_answered(code, basis, &packet[..len], answer) {
+        if !is_answered(code, basis, 0, &packet[..len], answer) {
             return false;
         }
     }

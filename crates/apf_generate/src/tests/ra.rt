@@ -5,12 +5,11 @@ ghost use Rattle.size_fit.specs.Sizes.{limit_of};
 ghost use Rattle.apf_generate.specs.Sizes.{need_of};
 
 use crate::generate;
-use crate::tests::memory_of;
+use crate::tests::is_answered;
 use apf_base::{List, OutOfMemory};
 use apf_coding::Verdict::{self, Drop, Pass};
-use apf_interp::interpret;
 use data_counters::Counter::{self, *};
-use policy_state::{Basis, Chosen, Config, FilterState, decide};
+use policy_state::{Basis, Chosen, Config, FilterState};
 use ra_records::Record;
 use size_fit::{base, weight};
 use std::alloc::Global;
@@ -104,25 +103,6 @@ fn basis_of(alloc: Global, first: Chosen, second: Chosen) -> Result<Basis, OutOf
     })
 }
 
-/// Whether code and policy answer so, at an age, and raise this counter beside TOTAL_PACKETS.
-fn is_answered(
-    code: &[u8],
-    basis: &Basis,
-    age: u32,
-    frame: &[u8],
-    verdict: Verdict,
-    counter: Counter,
-) -> bool
-    requires code { length code.now ≤ 65535 }
-    requires frame { length frame.now ≤ 142 }
-{
-    let mut memory = [0; 128];
-    let outcome = interpret(code, &mut memory, frame, age);
-    decide(basis, age, frame) == (verdict, Some(counter))
-        && outcome.verdict == verdict
-        && memory == memory_of(true, Some(counter))
-}
-
 #[test]
 fn advertisements_are_answered(rt: HostRuntime) -> Result<(), Fail> {
     let other = advertisement_with(&[(37, 1)]);
@@ -142,7 +122,8 @@ fn advertisements_are_answered(rt: HostRuntime) -> Result<(), Fail> {
     for (row, age, len, changed, verdict, counter) in &ROWS {
         let frame = advertisement_with(changed);
         let frame = &frame[..(*len).min(142)];
-        let answered = is_answered(code.as_slice(), &basis, *age, frame, *verdict, *counter);
+        let answer = (*verdict, Some(*counter));
+        let answered = is_answered(code.as_slice(), &basis, *age, frame, answer);
         assert!(rt; answered, "{row}");
     }
     Ok(())
