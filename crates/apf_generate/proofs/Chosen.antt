@@ -9,7 +9,7 @@ use Rattle.policy_state.specs.declared.ruling.Ruling.TheVariants.{Silent}
 use Rattle.policy_state.specs.Asking.{otherwise, first_of}
 use Rattle.policy_state.specs.Records.{advertised_again}
 use Rattle.policy_state.proofs.AskingLaws.{otherwise-assoc, otherwise-silent}
-use Rattle.rule_items.specs.Fragment.{Emits, labels}
+use Rattle.rule_items.specs.Fragment.{Emits, IsPart, labels}
 use Rattle.rule_items.specs.Rulings.{said_of}
 use Rattle.rule_items.proofs.Forms.{sound-nil}
 use Rattle.rule_items.proofs.Parts.{fragment-of, part-then, part-same}
@@ -28,17 +28,16 @@ first_of-push : (ask : Chosen → Ruling) (chosen : List Chosen) (one : Chosen) 
 first_of-push ask [] one = otherwise-silent (ask one)
 first_of-push ask (c ∷ chosen) one = ap (otherwise (ask c)) (first_of-push ask chosen one) ∙ sym (otherwise-assoc (ask c) (first_of (map ask chosen)) (ask one))
 
-pub none_added : (from : ℕ) (old : List Item) → AddsRecords [] from from old old
+-- no records, no items
+pub no_records : (from : ℕ) → IsPart (λ age frame. said_of Silent) from from 0 []
 unfolding labels
-none_added from old = record {
-  rules = [];
-  appended = nothing old;
-  part = record {
-    form = fragment-of from from 0 [] sound-nil (omega arith) tt (omega arith) (omega arith);
-    tells = told rulings (λ age frame. Silent) [] (λ n frame age m ready. done rulings n frame m m.r0 m.r1);
-  };
-  few = omega arith;
+no_records from = record {
+  form = fragment-of from from 0 [] sound-nil (omega arith) tt (omega arith) (omega arith);
+  tells = told rulings (λ age frame. Silent) [] (λ n frame age m ready. done rulings n frame m m.r0 m.r1);
 }
+
+pub none_added : (from : ℕ) (old : List Item) → AddsRecords [] from from old old
+none_added from old = record { rules = []; appended = nothing old; part = no_records from; few = omega arith }
   where
     nothing : (xs : List Item) → xs ≡ xs ++ []
     nothing [] = refl

@@ -3,3 +3,4 @@ pub mod Listing
 pub mod Program
 pub mod Sizes
 pub mod RaListing
+pub mod Ranges

@@ -4,10 +4,12 @@
 //! policy's verdict, and raises the counters that the policy names. Its length is bounded by the basis.
 #![tactic(auto)]
 
+mod laws;
 mod program;
 mod ra;
 #[cfg(test)]
 mod tests;
 
+pub use laws::programs_exist;
 pub use program::generate;
 pub use ra::emit_ra;

@@ -4,3 +4,5 @@ pub mod Counting
 pub mod LeastHold
 pub mod Numbering
 pub mod Fitting
+pub mod Growing
+pub mod SoundBases

@@ -6,6 +6,8 @@ ghost use Rattle.apf_generate.specs.Sizes.{need_of};
 ghost use Rattle.data_counters.specs.Memory.{value_of};
 ghost use Rattle.data_counters.specs.declared.counter.Counter.{Counter};
 ghost use Rattle.policy_state.specs.Effects.{after};
+ghost use Rattle.apf_generate.specs.Ranges.{AreBytes, IsBasis, IsScript};
+ghost use Rattle.policy_state.specs.States.{start};
 ghost use Rattle.policy_state.specs.declared.basis.Script.{Script};
 ghost use Rattle.policy_state.specs.declared.basis.UpdateReply.TheVariants as updates;
 ghost use Rattle.policy_state.specs.declared.config.Config.{Config};
@@ -77,4 +79,13 @@ pub fn steps_count_their_installs()
         (updated f u now).0.install.number ≡ (if update_installs (updated f u now).1 then f.install.number + 1 else f.install.number) }
     ensures advertisement { (f : Filter) (frame : List ℕ) (now : ℕ) →
         (advertised f frame now).0.install.number ≡ (if advert_installs (advertised f frame now).1 then f.install.number + 1 else f.install.number) }
+{}
+
+/// Each install of a replay has a basis whose numbers lie in their ranges, where those of the script do and frames are
+/// bytes, as they always are in the code. And its program has room, where the first base has.
+pub fn bases_are_sound()
+    ensures sound { (script : Script) (arrivals : List Arrival) → IsScript script → All (λ arrival. AreBytes arrival.frame) arrivals →
+        All (λ i. IsBasis i.basis) (installs_of (replay script arrivals)) }
+    ensures room { (script : Script) (arrivals : List Arrival) → base script.config start ≤ limit_of script.config →
+        All (λ i. need_of i.basis ≤ limit_of i.basis.config) (installs_of (replay script arrivals)) }
 {}

@@ -16,8 +16,9 @@ mod tests;
 
 pub use install::Install;
 pub use laws::{
-    answers_are_by_the_last_install, counters_count_answers, longest_prefix_is_chosen,
-    programs_mean_their_basis, steps_count_their_installs, update_replies_have_causes,
+    answers_are_by_the_last_install, bases_are_sound, counters_count_answers,
+    longest_prefix_is_chosen, programs_mean_their_basis, steps_count_their_installs,
+    update_replies_have_causes,
 };
 pub use living::{Core, StartError};
 pub use sharing::types_are_shared;

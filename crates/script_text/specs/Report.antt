@@ -106,9 +106,13 @@ ra_line k r = codes "ra " ++ decimal k ++ codes " " ++ reply_words r ++ codes "\
 
 -- ---- totals
 
--- a counter that isn't 0
+-- a counter and what it holds
+abbrev pub counted_line : Counter → ℕ → List ℕ
+counted_line c n = codes "counter " ++ name_of c ++ codes " " ++ decimal n ++ codes "\n"
+
+-- that of a counter that isn't 0
 unfoldable pub counter_line : List ℕ → Counter → List ℕ
-counter_line memory c = if value_of c memory == 0 then [] else codes "counter " ++ name_of c ++ codes " " ++ decimal (value_of c memory) ++ codes "\n"
+counter_line memory c = if value_of c memory == 0 then [] else counted_line c (value_of c memory)
 
 -- the line of the counter with a number, if there is one
 abbrev pub numbered_line : List ℕ → ℕ → List ℕ

@@ -28,6 +28,6 @@ pub use script::read_script;
 pub use script_error::{ScriptError, ScriptKind};
 pub use script_laws::{scripts_are_answered, texts_have_one_answer};
 pub use sharing::types_are_shared;
-pub use totals::print_totals;
+pub use totals::{print_counter, print_total, print_totals};
 pub use word_laws::words_have_one_value;
 pub use words::{Endpoint, read_address, read_endpoint, read_ethertype, read_ip, read_mac};

@@ -71,3 +71,36 @@ pub fn print_totals(
     add_total(&mut text, frames, passed, programs)?;
     out.extend(text.as_bytes())
 }
+
+/// Appends the line of a counter of a memory, or nothing where it is 0.
+pub fn print_counter(
+    alloc: Global,
+    memory: &[u8; 128],
+    counter: Counter,
+    out: &mut List<u8>,
+) -> Result<(), OutOfMemory>
+    ensures ok { OnOk result (out.new ≡ out.old ++ counter_line memory.now counter) }
+    ensures err { OnErr result (out.new ≡ out.old) }
+{
+    let mut text = String::new(alloc);
+    add_counter(&mut text, memory, counter)?;
+    out.extend(text.as_bytes())
+}
+
+/// Appends the last line: the frames, how many of them passed and how many were dropped, and the programs that were
+/// installed.
+pub fn print_total(
+    alloc: Global,
+    frames: u64,
+    passed: u64,
+    programs: u64,
+    out: &mut List<u8>,
+) -> Result<(), OutOfMemory>
+    requires { passed ≤ frames }
+    ensures ok { OnOk result (out.new ≡ out.old ++ total_line frames passed programs) }
+    ensures err { OnErr result (out.new ≡ out.old) }
+{
+    let mut text = String::new(alloc);
+    add_total(&mut text, frames, passed, programs)?;
+    out.extend(text.as_bytes())
+}

@@ -1,0 +1,8 @@
+pub mod Adding
+pub mod Leading
+pub mod Learning
+pub mod Reporting
+pub mod Room
+pub mod Summing
+pub mod Telling
+pub mod Updating

@@ -1,0 +1,5 @@
+pub mod Along
+pub mod Arrivals
+pub mod Lines
+pub mod Report
+pub mod Text

@@ -1,0 +1,18 @@
+//! The report of a filter: what it writes about a script over the frames of a capture, line by line.
+//!
+//! What stands written at each time is the text of what the script's replay tells so far. Each frame's line has the verdict,
+//! the counter and the steps of the program whose code was printed last, and that code means the policy.
+#![tactic(auto)]
+
+mod events;
+mod fault;
+mod filtering;
+mod frames;
+mod lines;
+mod sharing;
+mod totals;
+mod writing;
+
+pub use fault::ReportFault;
+pub use filtering::Filtering;
+pub use sharing::types_are_shared;

@@ -1,0 +1,25 @@
+//! Lines that go out.
+
+ghost use Rattle.std.specs.Prelude.{◌≡◌, ◌≢◌, ◌≤◌, ℕ, OnOk, OnErr, Err};
+ghost use Rattle.std.specs.List.{concat};
+ghost use Rattle.apf_base.specs.Causes.{Rose};
+ghost use Rattle.apf_base.specs.Streams.{AppendsFront};
+ghost use Rattle.filter_report.specs.Lines.{AppendsAll};
+
+use crate::fault::ReportFault;
+use apf_base::{List, Sink, write_all};
+
+/// Writes lines, each as one piece.
+pub(crate) fn write_lines<O: Sink>(lines: &[List<u8>], out: &mut O) -> Result<(), ReportFault>
+    ensures ok { OnOk result (AppendsAll (O.held out.old) (O.held out.new) lines.now) }
+    ensures err { OnErr result (result ≡ Err ReportFault.Write) }
+    ensures front { OnErr result (AppendsFront (O.held out.old) (O.held out.new) (concat lines.now)) }
+    ensures no_limit { (need limit : ℕ) → result ≢ Err (ReportFault.TooLarge need limit) }
+    ensures write { result ≡ Err ReportFault.Write → Rose (O.faults out.old) (O.faults out.new) }
+    ensures faults { O.faults out.old ≤ O.faults out.new }
+{
+    for line in lines {
+        write_all(out, line.as_slice())?;
+    }
+    Ok(())
+}
