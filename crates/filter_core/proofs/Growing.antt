@@ -171,18 +171,26 @@ module _ (P : Installed → Type 0) (Q : Filter → Type 0) (U : Update → Type
 
 -- ---- the end
 
--- totals tell of no install
-counted_apart : (t : Bool) (c : Counter) (n : ℕ) (rest : List Entry) → installs_of (cond t [] (counted c n ∷ []) ++ rest) ≡ installs_of rest
-counted_apart true c n rest = refl
-counted_apart false c n rest = refl
+-- totals tell of no install and of no answer
+counted_apart : (t : Bool) (c : Counter) (n : ℕ) (rest : List Entry) → (installs_of (cond t [] (counted c n ∷ []) ++ rest) ≡ installs_of rest) × (answers_of (cond t [] (counted c n ∷ []) ++ rest) ≡ answers_of rest)
+counted_apart true c n rest = (refl, refl)
+counted_apart false c n rest = (refl, refl)
 
-totals_apart : (answers : List Answered) (cs : List Counter) (frames passed all : ℕ) → installs_of (flat_map (counted_in answers) cs ++ total frames passed all ∷ []) ≡ []
+pub totals_apart : (answers : List Answered) (cs : List Counter) (frames passed all : ℕ) → installs_of (flat_map (counted_in answers) cs ++ total frames passed all ∷ []) ≡ []
 totals_apart answers [] frames passed all = refl
 totals_apart answers (c ∷ cs) frames passed all =
     let rest = flat_map (counted_in answers) cs in
     ap installs_of (append_assoc (counted_in answers c) rest (total frames passed all ∷ []))
-    ∙ counted_apart _ c _ (rest ++ total frames passed all ∷ [])
+    ∙ (counted_apart _ c _ (rest ++ total frames passed all ∷ [])).0
     ∙ totals_apart answers cs frames passed all
+
+pub totals_answers : (answers : List Answered) (cs : List Counter) (frames passed all : ℕ) → answers_of (flat_map (counted_in answers) cs ++ total frames passed all ∷ []) ≡ []
+totals_answers answers [] frames passed all = refl
+totals_answers answers (c ∷ cs) frames passed all =
+    let rest = flat_map (counted_in answers) cs in
+    ap answers_of (append_assoc (counted_in answers c) rest (total frames passed all ∷ []))
+    ∙ (counted_apart _ c _ (rest ++ total frames passed all ∷ [])).1
+    ∙ totals_answers answers cs frames passed all
 
 pub totals_grow : (P : Installed → Type 0) (told : List Entry) → Grows P told (told ++ totals told)
 totals_grow P told = record {

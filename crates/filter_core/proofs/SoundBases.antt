@@ -138,7 +138,8 @@ reinstalled_sound f state h s =
     let left = standing_sound f.clock f.held h.held in
     (record { config = h.config; state = s; held = left }, install_sound (f.install.number + 1) f.clock (config_of f) state (standing f.clock f.held) h.config s left)
 
-room_fits : (f : Filter) → HasRoom f.install → IsFitting f
+-- an install that has room has a base that fits
+pub room_fits : (f : Filter) → HasRoom f.install → IsFitting f
 room_fits f room = omega (arith, room)
 
 reinstalled_room : (f : Filter) (state : FilterState) → base (config_of f) state ≤ limit_of (config_of f) → Stays HasRoom IsFitting true (reinstalled f state)

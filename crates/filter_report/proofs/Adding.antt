@@ -1,7 +1,8 @@
 -- How what calls add goes together.
-use Rattle.std.proofs.Common.{◌≡◌, ℕ, List, [], ◌∷◌, ◌++◌, Option, Result, Ok, Err, OnOk, OnErr, IfOk, IfErr, refl, sym, ap, subst, ◌∙◌, append_assoc, append-nil, ◌+◌, ◌<◌, ◌≤◌, length, take, drop, get_or, take-append-drop}
+use Rattle.std.proofs.Common.{◌≡◌, ℕ, List, [], ◌∷◌, ◌++◌, Option, None, Some, Result, Ok, Err, OnOk, OnErr, IfOk, IfErr, refl, sym, ap, subst, ◌∙◌, append_assoc, append-nil, ◌+◌, ◌<◌, ◌≤◌, length, take, drop, get_or, take-append-drop}
+use Rattle.std.specs.Prelude.{◌≢◌}
 use Rattle.std.specs.List.{concat}
-use Rattle.std.specs.Io.KnownBytes.{Appends}
+use Rattle.std.specs.Io.KnownBytes.{Appends, Keeps}
 use Rattle.std.proofs.KnownBytes.{Appends-trans, Appends-nil}
 use Rattle.std.proofs.lemmas.Grind.{take_at_read}
 use Rattle.std.proofs.lemmas.List.{take_all}
@@ -12,6 +13,11 @@ use Rattle.filter_report.specs.declared.fault.ReportFault.TheVariants.{TooLarge,
 use Rattle.filter_report.specs.Lines.{AppendsAll, Adds, BreaksOff}
 
 -- ---- lines behind lines
+
+kept_none : (a b : Option (List ℕ)) → Keeps a b → Appends a b []
+kept_none None b k = tt
+kept_none (Some x) None k = absurd k
+kept_none (Some x) (Some y) k = k ∙ sym (append-nil x)
 
 pub all_and_all : (a b c : Option (List ℕ)) (xs ys : List (List ℕ)) → AppendsAll a b xs → AppendsAll b c ys → AppendsAll a c (xs ++ ys)
 all_and_all a b c xs ys before now = subst (λ (bs : List ℕ). Appends a c bs) (sym (concat-append xs ys)) (Appends-trans a b c (concat xs) (concat ys) before now)
@@ -75,6 +81,19 @@ module _ (Before After : List (List ℕ) → Type 0) (a b : Option (List ℕ)) w
   breaks_these more (Err (TooLarge need limit)) tells is front = tt
   breaks_these more (Err OutOfMemory) tells is front = absurd cc
   breaks_these more (Err Write) tells is front = λ lines before. (more, front, tells lines before)
+
+module _ (Before After : List (List ℕ) → Type 0) (a b : Option (List ℕ)) (more : List (List ℕ)) (tells : (lines : List (List ℕ)) → Before lines → After (lines ++ more)) where
+  -- the same where which lines are written is known by what held
+  pub adds_known : (result : Result (Unit {0}) ReportFault) → ((lines : List (List ℕ)) → Before lines → OnOk result (AppendsAll a b more)) → OnOk result (Adds Before After a b)
+  adds_known (Ok x) done = λ lines before. (more, done lines before, tells lines before)
+  adds_known (Err e) done = tt
+
+  pub breaks_known : (result : Result (Unit {0}) ReportFault) → ((lines : List (List ℕ)) → Before lines → After lines) → OnErr result (result ≢ Err Write → Keeps a b)
+      → ((lines : List (List ℕ)) → Before lines → result ≡ Err Write → AppendsFront a b (concat more)) → IfErr result (λ fault. BreaksOff fault Before After a b)
+  breaks_known (Ok x) same quiet front = tt
+  breaks_known (Err (TooLarge need limit)) same quiet front = tt
+  breaks_known (Err OutOfMemory) same quiet front = λ lines before. ([], kept_none a b (quiet (λ is. absurd cc)), subst After (sym (append-nil lines)) (same lines before))
+  breaks_known (Err Write) same quiet front = λ lines before. (more, front lines before refl, tells lines before)
 
 -- ---- an error that is passed on
 

@@ -1,5 +1,6 @@
 -- A report in course can always be completed.
 use Rattle.std.proofs.Common.{◌≡◌, ℕ, ◌+◌, ◌<◌, ◌≤◌, List, [], ◌∷◌, ◌++◌, length, fold, map, take, drop, get_or, refl, sym, ap, subst, ◌∙◌, append_assoc}
+use Rattle.std.specs.Prelude.{⊤}
 use Rattle.std.proofs.lemmas.Grind.{take_at_read}
 use Rattle.std.proofs.lemmas.List.{append-nil, map-append, take-append-drop}
 use Rattle.std.proofs.lemmas.List.Sums.{fold-append}
@@ -8,18 +9,38 @@ use Rattle.pcap_files.specs.Capture.{frame_of}
 use Rattle.pcap_files.specs.declared.kinds.Placed.{Placed}
 use Rattle.policy_state.specs.declared.basis.Script.{Script}
 use Rattle.policy_state.specs.declared.basis.Timed.{Timed}
+use Rattle.filter_core.proofs.Growing.{Grows, Grown, installs-append, event_grown, events_grown, due_grown, frame_grown, arrivals_grown, totals_grow}
+use Rattle.filter_core.proofs.SoundBases.{HasRoom, IsFitting, room_fits, room_kept}
 use Rattle.filter_core.specs.Installs.{Installed}
 use Rattle.filter_core.specs.Standing.{Standing, filter_of}
 use Rattle.filter_core.specs.Steps.{Filter}
 use Rattle.filter_core.specs.Tally.{raised_by}
 use Rattle.filter_core.specs.Replay.{Arrival, Course, Entry, after_event, after_due, after_frame, after_arrival, answers_of, installs_of, story, replay, finished, totals}
-use Rattle.filter_report.proofs.Room.{Fitting, Grows, room_fits, grows_grows, event_grown, events_grown, due_grown, frame_grown, arrivals_grown, totals_grow, ended_grows}
 use Rattle.filter_report.proofs.Updating.{fold_one, fold_rest}
-use Rattle.filter_report.proofs.Telling.{lines-append, answers-append, installs-append, AllFit-append, steps-append}
+use Rattle.filter_report.proofs.Telling.{lines-append, answers-append, AllFit-append, steps-append}
 use Rattle.filter_report.specs.Along.{Along, InCourse}
 use Rattle.filter_report.specs.Arrivals.{arrival_of, arrivals_of, frames_of}
 use Rattle.filter_report.specs.Report.{AllHaveCodes, AllFit, Fits, steps_from, Tells, IsReport, IsStory, ended, Leads}
 use Rattle.filter_report.specs.Text.{entry_lines}
+
+-- ---- courses whose installs have room, whatever updates and frames come
+
+event_room : (c : Course) (event : Timed) → IsFitting c.filter → Grown HasRoom IsFitting c (after_event c event)
+event_room c event fits = event_grown HasRoom IsFitting (λ u. ⊤) (λ frame. ⊤) room_kept c event fits tt
+
+events_room : (c : Course) (events : List Timed) → IsFitting c.filter → Grown HasRoom IsFitting c (fold after_event c events)
+events_room c events fits = events_grown HasRoom IsFitting (λ u. ⊤) (λ frame. ⊤) room_kept c events fits (λ k d lt. tt)
+
+due_room : (second : ℕ) (c : Course) → IsFitting c.filter → Grown HasRoom IsFitting c (after_due second c c.events)
+due_room second c fits = due_grown HasRoom IsFitting (λ u. ⊤) (λ frame. ⊤) room_kept second c c.events fits (λ k d lt. tt)
+
+frame_room : (c : Course) (arrival : Arrival) → IsFitting c.filter → Grown HasRoom IsFitting c (after_frame c arrival)
+frame_room c arrival fits = frame_grown HasRoom IsFitting (λ u. ⊤) (λ frame. ⊤) room_kept c arrival fits tt
+
+arrivals_room : (c : Course) (arrivals : List Arrival) → IsFitting c.filter → Grown HasRoom IsFitting c (fold after_arrival c arrivals)
+arrivals_room c arrivals fits = arrivals_grown HasRoom IsFitting (λ u. ⊤) (λ frame. ⊤) room_kept c arrivals fits (λ k d lt. tt) (λ k d lt. tt)
+
+-- ---- lines that lead
 
 -- the codes of installs, as a list
 codes_for : (is : List Installed) → AllHaveCodes is → (codes : List (List ℕ)) × AllFit codes is
@@ -35,8 +56,8 @@ pub codes_behind : (es fs : List Entry) → AllHaveCodes (installs_of (es ++ fs)
 codes_behind es fs have = codes_drop (installs_of es) (installs_of fs) (subst AllHaveCodes (installs-append es fs) have)
 
 -- the core's install has room, so its base fits
-pub along_fits : (c : Course) (core : Standing) (frames lines : List (List ℕ)) → Along c core frames lines → Fitting c.filter
-along_fits c core frames lines a = subst Fitting a.at (room_fits (filter_of core) core.install.fits)
+pub along_fits : (c : Course) (core : Standing) (frames lines : List (List ℕ)) → Along c core frames lines → IsFitting c.filter
+along_fits c core frames lines a = subst IsFitting a.at (room_fits (filter_of core) core.install.fits)
 
 -- the lines so far begin each text of what is told so far and of more, and the lines of more end it
 pub leads_lines : (c : Course) (core : Standing) (frames lines : List (List ℕ)) → Along c core frames lines → (more : List Entry) (later : List (List ℕ)) → AllHaveCodes (installs_of more)
@@ -65,7 +86,7 @@ pub leads : (c : Course) (core : Standing) (frames lines : List (List ℕ)) → 
 leads c core frames lines a = λ more later have. let r = leads_lines c core frames lines a more later (codes_behind c.told more have) in (entry_lines r.0 r.1 more, r.2)
 
 -- and so they do once more is told
-pub leads_grown : (told all : List Entry) (frames later lines : List (List ℕ)) → Grows told all → Leads told frames lines → Leads all (frames ++ later) lines
+pub leads_grown : (told all : List Entry) (frames later lines : List (List ℕ)) → Grows HasRoom told all → Leads told frames lines → Leads all (frames ++ later) lines
 leads_grown told all frames later lines g lead =
     subst (λ (es : List Entry). Leads es (frames ++ later) lines) (sym g.is) (λ more next have.
     let r = lead (g.more ++ more) (later ++ next) (subst (λ (es : List Entry). AllHaveCodes (installs_of es)) (append_assoc told g.more more) have) in (
@@ -75,9 +96,21 @@ leads_grown told all frames later lines g lead =
     ))
 
 -- the same where no frame comes with it
-pub leads_told : (told all : List Entry) (frames lines : List (List ℕ)) → Grows told all → Leads told frames lines → Leads all frames lines
+pub leads_told : (told all : List Entry) (frames lines : List (List ℕ)) → Grows HasRoom told all → Leads told frames lines → Leads all frames lines
 leads_told told all frames lines g lead =
     subst (λ (fs : List (List ℕ)). Leads all fs lines) (append-nil frames) (leads_grown told all frames [] lines g lead)
+
+-- the lines so far, where no code and no step comes later
+pub lines_told : (c : Course) (core : Standing) (frames lines : List (List ℕ)) (a : Along c core frames lines)
+    → lines ≡ entry_lines a.programs (steps_from a.programs [] (answers_of c.told) frames) c.told
+lines_told c core frames lines a =
+    let steps = steps_from a.programs [] (answers_of c.told) frames in
+    a.telling [] [] ∙ ap (λ (p : List (List ℕ)). entry_lines p (steps_from p [] (answers_of c.told) frames ++ []) c.told) (append-nil a.programs)
+    ∙ ap (λ (s : List ℕ). entry_lines a.programs s c.told) (append-nil steps)
+
+-- they tell what is told so far
+pub along_tells : (c : Course) (core : Standing) (frames lines : List (List ℕ)) → Along c core frames lines → Tells c.told frames lines
+along_tells c core frames lines a = record { programs = a.programs; fit = a.fit; telling = lines_told c core frames lines a }
 
 -- lines that lead can be completed at once
 pub leads_tells : (told : List Entry) (frames lines : List (List ℕ)) → AllHaveCodes (installs_of told) → Leads told frames lines → (rest : List (List ℕ)) × Tells told frames (lines ++ rest)
@@ -102,41 +135,41 @@ leads_report script arrivals lines have lead = leads_tells (replay script arriva
 -- before an event was told
 pub leads_event : (c : Course) (core : Standing) (frames lines : List (List ℕ)) (event : Timed) → Along c core frames lines → Leads (after_event c event).told frames lines
 leads_event c core frames lines event a =
-    leads_told c.told (after_event c event).told frames lines (event_grown c event (along_fits c core frames lines a)).told (leads c core frames lines a)
+    leads_told c.told (after_event c event).told frames lines (event_room c event (along_fits c core frames lines a)).told (leads c core frames lines a)
 
 -- before a frame was told
 pub leads_frame : (c : Course) (core : Standing) (frames lines : List (List ℕ)) (arrival : Arrival) → Along c core frames lines
     → Leads (after_frame c arrival).told (frames ++ arrival.frame ∷ []) lines
 leads_frame c core frames lines arrival a =
-    leads_grown c.told (after_frame c arrival).told frames (arrival.frame ∷ []) lines (frame_grown c arrival (along_fits c core frames lines a)).told (leads c core frames lines a)
+    leads_grown c.told (after_frame c arrival).told frames (arrival.frame ∷ []) lines (frame_room c arrival (along_fits c core frames lines a)).told (leads c core frames lines a)
 
 -- before the end was told
 pub leads_end : (d : Course) (core : Standing) (frames lines : List (List ℕ)) → Along d core frames lines → Leads (d.told ++ totals d.told) frames lines
-leads_end d core frames lines a = leads_told d.told (d.told ++ totals d.told) frames lines (totals_grow d.told) (leads d core frames lines a)
+leads_end d core frames lines a = leads_told d.told (d.told ++ totals d.told) frames lines (totals_grow HasRoom d.told) (leads d core frames lines a)
 
 -- within events
-pub leads_behind : (c : Course) (events : List Timed) (i : ℕ) (d event : Timed) (frames lines : List (List ℕ)) → Fitting c.filter → i < length events → event ≡ get_or events i d
+pub leads_behind : (c : Course) (events : List Timed) (i : ℕ) (d event : Timed) (frames lines : List (List ℕ)) → IsFitting c.filter → i < length events → event ≡ get_or events i d
     → Leads (after_event (fold after_event c (take i events)) event).told frames lines → Leads (fold after_event c events).told frames lines
 leads_behind c events i d event frames lines fits below is lead =
     let b = fold after_event c (take (i + 1) events) in
     let rest = drop (i + 1) events in
     let here : Leads b.told frames lines = subst (λ (e : Course). Leads e.told frames lines) (sym (fold_one after_event c events i d event below is)) lead in
     subst (λ (e : Course). Leads e.told frames lines) (sym (fold_rest after_event c events i (i + 1)))
-    (leads_told b.told (fold after_event b rest).told frames lines (events_grown b rest (events_grown c (take (i + 1) events) fits).fits).told here)
+    (leads_told b.told (fold after_event b rest).told frames lines (events_room b rest (events_room c (take (i + 1) events) fits).filter).told here)
 
 -- within the events before a frame
-pub leads_arrival : (c : Course) (frames lines : List (List ℕ)) (arrival : Arrival) → Fitting c.filter
+pub leads_arrival : (c : Course) (frames lines : List (List ℕ)) (arrival : Arrival) → IsFitting c.filter
     → Leads (after_due arrival.second c c.events).told frames lines → Leads (after_arrival c arrival).told (frames ++ arrival.frame ∷ []) lines
 leads_arrival c frames lines arrival fits lead =
     let d = after_due arrival.second c c.events in
-    leads_grown d.told (after_arrival c arrival).told frames (arrival.frame ∷ []) lines (frame_grown d arrival (due_grown arrival.second c c.events fits).fits).told lead
+    leads_grown d.told (after_arrival c arrival).told frames (arrival.frame ∷ []) lines (frame_room d arrival (due_room arrival.second c fits).filter).told lead
 
 -- within the events at the end
 pub leads_ended : (c : Course) (frames lines : List (List ℕ)) → Leads (fold after_event c c.events).told frames lines → Leads (ended c) frames lines
-leads_ended c frames lines lead = leads_told (finished c).told (ended c) frames lines (totals_grow (finished c).told) lead
+leads_ended c frames lines lead = leads_told (finished c).told (ended c) frames lines (totals_grow HasRoom (finished c).told) lead
 
 -- within records of a capture
-pub leads_records : (capture : List ℕ) (c : Course) (records : List Placed) (i : ℕ) (d placed : Placed) (frames lines : List (List ℕ)) → Fitting c.filter → i < length records → placed ≡ get_or records i d
+pub leads_records : (capture : List ℕ) (c : Course) (records : List Placed) (i : ℕ) (d placed : Placed) (frames lines : List (List ℕ)) → IsFitting c.filter → i < length records → placed ≡ get_or records i d
     → (let b = fold after_arrival c (arrivals_of capture (take i records)) in
     Leads (after_arrival b (arrival_of capture placed)).told ((frames ++ map (frame_of capture) (take i records)) ++ frame_of capture placed ∷ []) lines)
     → Leads (fold after_arrival c (arrivals_of capture records)).told (frames ++ map (frame_of capture) records) lines
@@ -154,7 +187,7 @@ leads_records capture c records i d placed frames lines fits below is lead =
     let here : Leads b.told (frames ++ map (frame_of capture) first) lines =
     subst (λ (x : Course). Leads x.told (frames ++ map (frame_of capture) first) lines) (sym c_is) (subst (λ (x : List (List ℕ)). Leads (after_arrival (fold after_arrival c (arrivals_of capture (take i records))) (arrival_of capture placed)).told x lines) (sym fs) lead) in
     let later = arrivals_of capture rest in
-    let grown = arrivals_grown b later (arrivals_grown c (arrivals_of capture first) fits).fits in
+    let grown = arrivals_room b later (arrivals_room c (arrivals_of capture first) fits).filter in
     let done : Leads (fold after_arrival b later).told ((frames ++ map (frame_of capture) first) ++ map (frame_of capture) rest) lines =
     leads_grown b.told (fold after_arrival b later).told (frames ++ map (frame_of capture) first) (map (frame_of capture) rest) lines grown.told here in
     let whole : fold after_arrival c (arrivals_of capture records) ≡ fold after_arrival b later =

@@ -2,7 +2,6 @@ pub mod Adding
 pub mod Leading
 pub mod Learning
 pub mod Reporting
-pub mod Room
 pub mod Summing
 pub mod Telling
 pub mod Updating

@@ -10,7 +10,7 @@ use Rattle.policy_state.specs.declared.basis.Script.{Script}
 use Rattle.policy_state.specs.declared.basis.Timed.{Timed}
 use Rattle.policy_state.specs.declared.basis.UpdateReply.{UpdateReply}
 use Rattle.filter_core.specs.Calls.{update_installs}
-use Rattle.filter_core.specs.Replay.{Arrival, Course, Entry, install, reply, after_event, after_due, after_arrival, after_frame, after_learning, is_learnt, answers_of, passed, begun}
+use Rattle.filter_core.specs.Replay.{Arrival, Course, Entry, install, reply, after_event, after_due, after_arrival, after_frame, after_learning, is_learnt, answers_of, passed, begun, finished}
 use Rattle.filter_core.specs.Standing.{Standing}
 use Rattle.filter_core.specs.Steps.{Filter, Answered, updated}
 use Rattle.filter_report.proofs.Telling.{answers-append}
@@ -60,6 +60,18 @@ due_in_course c old new second count frames start lines due left same passes bef
       events = sym left;
       frames_taken = same ∙ before.frames_taken;
       frames_passed = passes ∙ before.frames_passed ∙ ap passed (sym (events_answers c (take count old.left)));
+    })
+
+-- all events that are left were taken
+pub rest_in_course : (c : Course) (old new : Reporting) (frames start lines : List (List ℕ)) → new.left ≡ [] → new.frames ≡ old.frames → new.passed ≡ old.passed →
+    InCourse c old frames start → Along (fold after_event c old.left) new.core frames lines → InCourse (finished c) new frames lines
+rest_in_course c old new frames start lines left same passes before along =
+    let d = fold after_event c old.left in
+    subst (λ (es : List Timed). InCourse (record (fold after_event c es) { events = [] }) new frames lines) (sym before.events) (record {
+      along = along_events d new.core frames lines [] along;
+      events = sym left;
+      frames_taken = same ∙ before.frames_taken;
+      frames_passed = passes ∙ before.frames_passed ∙ ap passed (sym (events_answers c old.left));
     })
 
 -- a frame changes no event that is left

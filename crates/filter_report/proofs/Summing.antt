@@ -12,16 +12,16 @@ use Rattle.data_counters.specs.declared.counter.Counter.{Counter}
 use Rattle.data_counters.specs.declared.counter.Counter.TheVariants.{TotalPackets}
 use Rattle.policy_state.specs.Whole.{Fate, Short, Missing, Says}
 use Rattle.filter_core.proofs.Counting.{value_of-counts}
+use Rattle.filter_core.proofs.Growing.{installs-append, totals_apart, totals_answers}
 use Rattle.filter_core.specs.Installs.{Installed}
 use Rattle.filter_core.specs.Replay.{Course, Entry, counted, total, answers_of, installs_of, counted_in, passed, totals}
 use Rattle.filter_core.specs.Standing.{Standing}
 use Rattle.filter_core.specs.Steps.{Answered}
 use Rattle.filter_core.specs.Tally.{count, raises, raised_by, memory_of}
 use Rattle.script_text.specs.Report.{counted_line, total_line}
-use Rattle.filter_report.proofs.Room.{totals_apart, totals_answers}
-use Rattle.filter_report.proofs.Leading.{codes_behind, leads_lines}
-use Rattle.filter_report.proofs.Telling.{answers-append, installs-append, lines-append, length-AllFit}
-use Rattle.filter_report.specs.Along.{Along}
+use Rattle.filter_report.proofs.Leading.{codes_behind, leads_lines, lines_told}
+use Rattle.filter_report.proofs.Telling.{answers-append, lines-append, length-AllFit}
+use Rattle.filter_report.specs.Along.{Along, Reporting, InCourse}
 use Rattle.filter_report.specs.Report.{AllFit, steps_from, Tells, AllHaveCodes, Leads}
 use Rattle.filter_report.specs.Text.{entry_line, entry_lines, lines_of_counter, last_lines}
 
@@ -112,50 +112,73 @@ pub last_lines_are : (memory : List ℕ) (frames passed installs : ℕ) (lines c
 last_lines_are memory frames passed installs lines counters line is counts last =
     is ∙ ap (λ (l : List (List ℕ)). l ++ line ∷ []) (counts ∙ counted_lines-all memory) ∙ ap (λ (l : List ℕ). flat_map (lines_of_counter memory) all_counters ++ l ∷ []) last
 
--- all is told
-pub told_end : (d : Course) (core : Standing) (frames lines last : List (List ℕ)) (n k installs : ℕ) → Along d core frames lines → n ≡ length frames → n < 2 ^ 31 → k ≡ passed (answers_of d.told)
-    → installs ≡ core.install.number + 1 → last ≡ last_lines core.memory n k installs → Tells (d.told ++ totals d.told) frames (lines ++ last)
-told_end d core frames lines last n k installs a count few passes number shown =
+-- ---- the lines of totals show neither codes nor steps
+
+counters_apart : (programs : List (List ℕ)) (steps : List ℕ) (answers : List Answered) (cs : List Counter)
+    → map (entry_line programs steps) (flat_map (counted_in answers) cs) ≡ map (entry_line [] []) (flat_map (counted_in answers) cs)
+counters_apart programs steps answers [] = refl
+counters_apart programs steps answers (c ∷ cs) =
+    let here = counted_in answers c in
+    let rest = flat_map (counted_in answers) cs in
+    let n = count (raised_by answers) c in
+    map-append (entry_line programs steps) here rest
+    ∙ ap (λ (l : List (List ℕ)). l ++ map (entry_line programs steps) rest) (one_line programs steps (n == 0) c n ∙ sym (one_line [] [] (n == 0) c n))
+    ∙ ap (λ (l : List (List ℕ)). map (entry_line [] []) here ++ l) (counters_apart programs steps answers cs)
+    ∙ sym (map-append (entry_line [] []) here rest)
+
+totals_bare : (programs : List (List ℕ)) (steps : List ℕ) (told : List Entry) → entry_lines programs steps (totals told) ≡ entry_lines [] [] (totals told)
+unfolding entry_lines
+totals_bare programs steps told =
+    let answers = answers_of told in
+    let last = total (length answers) (passed answers) (length (installs_of told)) ∷ [] in
+    map-append (entry_line programs steps) (flat_map (counted_in answers) all_counters) last
+    ∙ ap (λ (l : List (List ℕ)). l ++ map (entry_line [] []) last) (counters_apart programs steps answers all_counters)
+    ∙ sym (map-append (entry_line [] []) (flat_map (counted_in answers) all_counters) last)
+
+-- ---- the end
+
+-- what a filter in course writes of its counters, its numbers and its installs are the lines of the totals
+pub totals_of : (c : Course) (f : Reporting) (frames lines last : List (List ℕ)) (installs : ℕ) → f.frames < 2 ^ 31 → installs ≡ f.core.install.number + 1
+    → last ≡ last_lines f.core.memory f.frames f.passed installs → InCourse c f frames lines → last ≡ entry_lines [] [] (totals c.told)
+totals_of c f frames lines last installs few number shown here =
+    let told = c.told in
+    let a = here.along in
+    let raised = memory_of (raised_by (answers_of told)) in
+    let many : length (installs_of told) ≡ f.core.install.number + 1 = length-AllFit a.programs (installs_of told) a.fit ∙ a.count in
+    let same : f.frames ≡ length (answers_of told) = here.frames_taken ∙ a.answered in
+    shown ∙ ap (λ (m : List ℕ). last_lines m f.frames f.passed installs) a.memory
+    ∙ ap (λ (n : ℕ). last_lines raised n f.passed installs) same
+    ∙ ap (λ (n : ℕ). last_lines raised (length (answers_of told)) n installs) here.frames_passed
+    ∙ ap (λ (n : ℕ). last_lines raised (length (answers_of told)) (passed (answers_of told)) n) (number ∙ sym many)
+    ∙ sym (totals_lines [] [] told (omega (arith, same, few)))
+
+-- with them all is told
+pub told_end : (d : Course) (core : Standing) (frames lines : List (List ℕ)) → Along d core frames lines → Tells (d.told ++ totals d.told) frames (lines ++ entry_lines [] [] (totals d.told))
+told_end d core frames lines a =
     let told = d.told in
     let answers : answers_of (told ++ totals told) ≡ answers_of told = answers-append told (totals told) ∙ ap (λ (xs : List Answered). answers_of told ++ xs) (totals_answers (answers_of told) all_counters _ _ _) ∙ append-nil (answers_of told) in
     let all : installs_of (told ++ totals told) ≡ installs_of told = installs-append told (totals told) ∙ ap (λ (xs : List Installed). installs_of told ++ xs) (totals_apart (answers_of told) all_counters _ _ _) ∙ append-nil (installs_of told) in
     let steps = steps_from a.programs [] (answers_of told) frames in
-    let lines_are : lines ≡ entry_lines a.programs steps told =
-    a.telling [] [] ∙ ap (λ (p : List (List ℕ)). entry_lines p (steps_from p [] (answers_of told) frames ++ []) told) (append-nil a.programs)
-    ∙ ap (λ (s : List ℕ). entry_lines a.programs s told) (append-nil steps) in
-    let many : length (installs_of told) ≡ core.install.number + 1 = length-AllFit a.programs (installs_of told) a.fit ∙ a.count in
-    let same : n ≡ length (answers_of told) = count ∙ a.answered in
-    let last_are : last ≡ entry_lines a.programs steps (totals told) =
-    shown ∙ ap (λ (m : List ℕ). last_lines m n k installs) a.memory ∙ ap (λ (x : ℕ). last_lines (memory_of (raised_by (answers_of told))) x k installs) same
-    ∙ ap (λ (x : ℕ). last_lines (memory_of (raised_by (answers_of told))) (length (answers_of told)) x installs) passes
-    ∙ ap (λ (x : ℕ). last_lines (memory_of (raised_by (answers_of told))) (length (answers_of told)) (passed (answers_of told)) x) (number ∙ sym many)
-    ∙ sym (totals_lines a.programs steps told (omega (arith, same, few))) in
     record {
       programs = a.programs;
       fit = subst (λ (is : List Installed). AllFit a.programs is) (sym all) a.fit;
       telling =
-          ap (λ (l : List (List ℕ)). l ++ last) lines_are ∙ ap (λ (l : List (List ℕ)). entry_lines a.programs steps told ++ l) last_are
+          ap (λ (l : List (List ℕ)). l ++ entry_lines [] [] (totals told)) (lines_told d core frames lines a)
+          ∙ ap (λ (l : List (List ℕ)). entry_lines a.programs steps told ++ l) (sym (totals_bare a.programs steps told))
           ∙ sym (lines-append a.programs steps told (totals told))
           ∙ ap (λ (xs : List Answered). entry_lines a.programs (steps_from a.programs [] xs frames) (told ++ totals told)) (sym answers);
     }
 
 -- and the lines with the totals begin each text that goes on
-pub end_leads : (d : Course) (core : Standing) (frames lines last : List (List ℕ)) (n k installs : ℕ) → Along d core frames lines → n ≡ length frames → n < 2 ^ 31
-    → k ≡ passed (answers_of d.told) → installs ≡ core.install.number + 1 → last ≡ last_lines core.memory n k installs → Leads (d.told ++ totals d.told) frames (lines ++ last)
-end_leads d core frames lines last n k installs a count few passes number shown = λ more later have.
+pub end_leads : (d : Course) (core : Standing) (frames lines : List (List ℕ)) → Along d core frames lines → Leads (d.told ++ totals d.told) frames (lines ++ entry_lines [] [] (totals d.told))
+end_leads d core frames lines a = λ more later have.
     let told = d.told in
+    let last = entry_lines [] [] (totals told) in
     let r = leads_lines d core frames lines a (totals told ++ more) later
     (codes_behind told (totals told ++ more) (subst (λ (es : List Entry). AllHaveCodes (installs_of es)) (append_assoc told (totals told) more) have)) in
     let rest = entry_lines r.0 r.1 more in
-    let many : length (installs_of told) ≡ core.install.number + 1 = length-AllFit a.programs (installs_of told) a.fit ∙ a.count in
-    let same : n ≡ length (answers_of told) = count ∙ a.answered in
-    let last_are : last ≡ entry_lines r.0 r.1 (totals told) =
-    shown ∙ ap (λ (m : List ℕ). last_lines m n k installs) a.memory ∙ ap (λ (x : ℕ). last_lines (memory_of (raised_by (answers_of told))) x k installs) same
-    ∙ ap (λ (x : ℕ). last_lines (memory_of (raised_by (answers_of told))) (length (answers_of told)) x installs) passes
-    ∙ ap (λ (x : ℕ). last_lines (memory_of (raised_by (answers_of told))) (length (answers_of told)) (passed (answers_of told)) x) (number ∙ sym many)
-    ∙ sym (totals_lines r.0 r.1 told (omega (arith, same, few))) in
     let split : lines ++ entry_lines r.0 r.1 (totals told ++ more) ≡ (lines ++ last) ++ rest =
-    ap (λ (l : List (List ℕ)). lines ++ l) (lines-append r.0 r.1 (totals told) more ∙ ap (λ (l : List (List ℕ)). l ++ rest) (sym last_are)) ∙ sym (append_assoc lines last rest) in (
+    ap (λ (l : List (List ℕ)). lines ++ l) (lines-append r.0 r.1 (totals told) more ∙ ap (λ (l : List (List ℕ)). l ++ rest) (totals_bare r.0 r.1 told)) ∙ sym (append_assoc lines last rest) in (
       rest,
       subst (λ (es : List Entry). Tells es (frames ++ later) ((lines ++ last) ++ rest)) (sym (append_assoc told (totals told) more))
           (subst (λ (ls : List (List ℕ)). Tells (told ++ (totals told ++ more)) (frames ++ later) ls) split r.2),

@@ -10,6 +10,7 @@ use Rattle.policy_state.specs.Whole.{Fate, verdict_of, counter_of}
 use Rattle.policy_state.specs.declared.basis.Answer.{Answer}
 use Rattle.filter_core.proofs.Answering.{meaning}
 use Rattle.filter_core.proofs.Counting.{memory_of-more}
+use Rattle.filter_core.proofs.Growing.{installs-append}
 use Rattle.filter_core.specs.Coded.{plain}
 use Rattle.filter_core.specs.Installs.{Installed}
 use Rattle.filter_core.specs.Standing.{Standing, filter_of}
@@ -39,15 +40,6 @@ answers-append (answer k a ∷ es) fs = ap (λ (xs : List Answered). a ∷ xs) (
 answers-append (learnt k r ∷ es) fs = answers-append es fs
 answers-append (counted c n ∷ es) fs = answers-append es fs
 answers-append (total a b d ∷ es) fs = answers-append es fs
-
-pub installs-append : (es fs : List Entry) → installs_of (es ++ fs) ≡ installs_of es ++ installs_of fs
-installs-append [] fs = refl
-installs-append (install i ∷ es) fs = ap (λ (xs : List Installed). i ∷ xs) (installs-append es fs)
-installs-append (reply r at ∷ es) fs = installs-append es fs
-installs-append (answer k a ∷ es) fs = installs-append es fs
-installs-append (learnt k r ∷ es) fs = installs-append es fs
-installs-append (counted c n ∷ es) fs = installs-append es fs
-installs-append (total a b d ∷ es) fs = installs-append es fs
 
 -- ---- codes and steps
 

@@ -2,15 +2,17 @@
 
 ghost use Rattle.std.specs.Prelude.{◌≡◌, ◌≢◌, ◌≤◌, ◌<◌, ◌+◌, ◌^◌, ◌∷◌, [], ◌++◌, ℕ, List as Items, length, map, fold, All, IfOk, IfErr, OnOk, OnErr, Err};
 ghost use Rattle.std.specs.Io.KnownBytes.{Keeps};
+ghost use Rattle.std.specs.List.{concat};
 ghost use Rattle.apf_base.specs.Causes.{Rose};
-ghost use Rattle.filter_core.specs.Replay.{Course, after_arrival, after_due, after_frame, begun};
+ghost use Rattle.apf_base.specs.Streams.{AppendsFront};
+ghost use Rattle.filter_core.specs.Replay.{Course, after_arrival, after_due, after_frame, begun, finished, totals};
 ghost use Rattle.pcap_files.specs.Capture.{frame_of, IsWithin};
 ghost use Rattle.policy_state.specs.States.{start};
 ghost use Rattle.size_fit.specs.Sizes.{base, limit_of};
 ghost use Rattle.filter_report.specs.Along.{InCourse, IsFirst};
 ghost use Rattle.filter_report.specs.Arrivals.{arrivals_of};
-ghost use Rattle.filter_report.specs.Lines.{Adds, BreaksOff};
-ghost use Rattle.filter_report.specs.Text.{with_one};
+ghost use Rattle.filter_report.specs.Lines.{Adds, AppendsAll, BreaksOff};
+ghost use Rattle.filter_report.specs.Text.{with_one, entry_lines};
 ghost use Rattle.filter_report.specs.Report.{Leads, Tells, ended};
 
 use crate::events::{due, take_events};
@@ -90,8 +92,8 @@ fn with_one(one: bool, count: u64) -> u64
 impl Filtering {
     /// Makes the first install of a script, and writes its line.
     ///
-    /// `TooLarge` comes exactly where the base of the first state is more than the limit. Nothing is written then, nor where
-    /// memory runs out.
+    /// `TooLarge` comes exactly where the base of the first state is more than the limit. `OutOfMemory` comes also of a script
+    /// of more than 4294967295 events. Nothing is written in either case.
     pub fn begin<O: Sink>(
         alloc: Global,
         script: Script,
@@ -226,6 +228,47 @@ impl Filtering {
         Ok(())
     }
 
+    /// Takes the events that are left. None is left then.
+    pub fn take_rest<O: Sink>(&mut self, alloc: Global, out: &mut O) -> Result<(), ReportFault>
+        ensures ok { (c : Course) (frames : Items (Items ℕ))
+            → OnOk result (Adds (InCourse c self.old frames) (InCourse (finished c) self.new frames) (O.held out.old) (O.held out.new)) }
+        ensures err { (c : Course) (frames : Items (Items ℕ))
+            → IfErr result (λ fault. BreaksOff fault (InCourse c self.old frames) (Leads (finished c).told frames) (O.held out.old) (O.held out.new)) }
+        ensures left { self.new.left ≡ [] }
+        ensures frames { self.new.frames ≡ self.old.frames }
+        ensures no_limit { (need limit : ℕ) → result ≢ Err (ReportFault.TooLarge need limit) }
+        ensures write { result ≡ Err ReportFault.Write → Rose (O.faults out.old) (O.faults out.new) }
+        ensures faults { O.faults out.old ≤ O.faults out.new }
+    {
+        let (_, left) = self.events.as_slice().split_at(self.taken);
+        self.taken = self.events.len();
+        take_events(alloc, &mut self.core, left, out)
+    }
+
+    /// Writes the counters that aren't 0, and the totals of what was taken so far.
+    ///
+    /// Nothing is written where memory runs out.
+    pub fn write_totals<O: Sink>(&self, alloc: Global, out: &mut O) -> Result<(), ReportFault>
+        ensures ok { (c : Course) (frames lines : Items (Items ℕ)) → InCourse c self.now frames lines
+            → OnOk result (AppendsAll (O.held out.old) (O.held out.new) (entry_lines [] [] (totals c.told))) }
+        ensures front { (c : Course) (frames lines : Items (Items ℕ)) → InCourse c self.now frames lines
+            → result ≡ Err ReportFault.Write → AppendsFront (O.held out.old) (O.held out.new) (concat (entry_lines [] [] (totals c.told))) }
+        ensures quiet { OnErr result (result ≢ Err ReportFault.Write → Keeps (O.held out.old) (O.held out.new)) }
+        ensures no_limit { (need limit : ℕ) → result ≢ Err (ReportFault.TooLarge need limit) }
+        ensures write { result ≡ Err ReportFault.Write → Rose (O.faults out.old) (O.faults out.new) }
+        ensures faults { O.faults out.old ≤ O.faults out.new }
+    {
+        let installs = self.core.number() + 1;
+        let lines = last_lines(
+            alloc,
+            self.core.memory(),
+            self.frames,
+            self.passed,
+            installs,
+        )?;
+        write_lines(lines.as_slice(), out)
+    }
+
     /// Takes the events that are left, and writes the counters that aren't 0 and the totals.
     pub fn finish<O: Sink>(mut self, alloc: Global, out: &mut O) -> Result<(), ReportFault>
         ensures ok { (c : Course) (frames : Items (Items ℕ))
@@ -236,16 +279,7 @@ impl Filtering {
         ensures write { result ≡ Err ReportFault.Write → Rose (O.faults out.old) (O.faults out.new) }
         ensures faults { O.faults out.old ≤ O.faults out.new }
     {
-        let (_, left) = self.events.as_slice().split_at(self.taken);
-        take_events(alloc, &mut self.core, left, out)?;
-        let installs = self.core.number() + 1;
-        let lines = last_lines(
-            alloc,
-            self.core.memory(),
-            self.frames,
-            self.passed,
-            installs,
-        )?;
-        write_lines(lines.as_slice(), out)
+        self.take_rest(alloc, out)?;
+        self.write_totals(alloc, out)
     }
 }

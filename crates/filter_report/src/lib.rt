@@ -10,6 +10,8 @@ mod filtering;
 mod frames;
 mod lines;
 mod sharing;
+#[cfg(test)]
+mod tests;
 mod totals;
 mod writing;
 
