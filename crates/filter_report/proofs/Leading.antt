@@ -1,10 +1,9 @@
 -- A report in course can always be completed.
-use Rattle.std.proofs.Common.{◌≡◌, ℕ, ◌+◌, ◌<◌, ◌≤◌, List, [], ◌∷◌, ◌++◌, length, fold, map, take, drop, get_or, refl, sym, ap, subst, ◌∙◌, append_assoc}
+use Rattle.std.proofs.Common.{◌≡◌, ℕ, ◌+◌, ◌<◌, List, [], ◌∷◌, ◌++◌, length, fold, map, take, drop, get_or, sym, ap, subst, ◌∙◌, append_assoc}
 use Rattle.std.specs.Prelude.{⊤}
 use Rattle.std.proofs.lemmas.Grind.{take_at_read}
 use Rattle.std.proofs.lemmas.List.{append-nil, map-append, take-append-drop}
 use Rattle.std.proofs.lemmas.List.Sums.{fold-append}
-use Rattle.apf_generate.specs.Means.{Means}
 use Rattle.pcap_files.specs.Capture.{frame_of}
 use Rattle.pcap_files.specs.declared.kinds.Placed.{Placed}
 use Rattle.policy_state.specs.declared.basis.Script.{Script}
@@ -13,14 +12,13 @@ use Rattle.filter_core.proofs.Growing.{Grows, Grown, installs-append, event_grow
 use Rattle.filter_core.proofs.SoundBases.{HasRoom, IsFitting, room_fits, room_kept}
 use Rattle.filter_core.specs.Installs.{Installed}
 use Rattle.filter_core.specs.Standing.{Standing, filter_of}
-use Rattle.filter_core.specs.Steps.{Filter}
 use Rattle.filter_core.specs.Tally.{raised_by}
 use Rattle.filter_core.specs.Replay.{Arrival, Course, Entry, after_event, after_due, after_frame, after_arrival, answers_of, installs_of, story, replay, finished, totals}
 use Rattle.filter_report.proofs.Updating.{fold_one, fold_rest}
 use Rattle.filter_report.proofs.Telling.{lines-append, answers-append, AllFit-append, steps-append}
-use Rattle.filter_report.specs.Along.{Along, InCourse}
+use Rattle.filter_report.specs.Along.{Along}
 use Rattle.filter_report.specs.Arrivals.{arrival_of, arrivals_of, frames_of}
-use Rattle.filter_report.specs.Report.{AllHaveCodes, AllFit, Fits, steps_from, Tells, IsReport, IsStory, ended, Leads}
+use Rattle.filter_report.specs.Report.{AllHaveCodes, AllFit, steps_from, Tells, IsReport, IsStory, ended, Leads}
 use Rattle.filter_report.specs.Text.{entry_lines}
 
 -- ---- courses whose installs have room, whatever updates and frames come

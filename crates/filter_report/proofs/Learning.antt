@@ -1,6 +1,6 @@
 -- Frames, and what is learnt of them.
-use Rattle.std.proofs.Common.{◌≡◌, ℕ, zero, suc, ◌+◌, ◌-◌, ◌*◌, ◌<◌, ◌≤◌, max, Bool, true, false, cond, List, [], ◌∷◌, ◌++◌, length, drop, Option, None, Some, Result, Ok, Err, refl, sym, ap, subst, ◌∙◌, arith, append_assoc}
-use Rattle.std.specs.Prelude.{◌≢◌, ◌==◌, ◌&&◌, nat_lt, slice_index, count_by}
+use Rattle.std.proofs.Common.{◌≡◌, ℕ, zero, suc, ◌+◌, ◌-◌, ◌*◌, ◌≤◌, max, Bool, true, false, cond, List, [], ◌∷◌, ◌++◌, length, drop, Option, None, Some, Result, Ok, Err, refl, sym, ap, subst, ◌∙◌, arith, append_assoc}
+use Rattle.std.specs.Prelude.{◌≢◌, ◌==◌, ◌&&◌, nat_lt, slice_index}
 use Rattle.std.proofs.lemmas.List.{append-nil}
 use Rattle.std.proofs.lemmas.List.Sums.{sum_by-append}
 use Rattle.apf_coding.specs.Run.{run}
@@ -25,7 +25,7 @@ use Rattle.filter_core.specs.declared.install.Install.{Install}
 use Rattle.script_text.specs.Report.{gen_line, frame_line, ra_line}
 use Rattle.filter_report.proofs.Telling.{told_plain, told_install, told_answer, answer_is, answers-append, with_answer}
 use Rattle.filter_report.specs.Along.{Along}
-use Rattle.filter_report.specs.Text.{with_steps, with_one}
+use Rattle.filter_report.specs.Text.{with_one}
 
 -- ---- a candidate is never refused as no advertisement
 

@@ -1,5 +1,5 @@
 -- A filter that reports goes along with a course.
-use Rattle.std.proofs.Common.{◌≡◌, ℕ, ◌+◌, ◌<◌, ◌≤◌, Bool, true, false, cond, List, [], ◌∷◌, ◌++◌, length, length-append, take, drop, fold, OnOk, IfErr, Result, Ok, Err, refl, sym, ap, subst, ◌∙◌, arith, append_assoc, get_or, map}
+use Rattle.std.proofs.Common.{◌≡◌, ℕ, ◌+◌, ◌<◌, Bool, true, false, cond, List, [], ◌∷◌, ◌++◌, length, length-append, take, drop, fold, refl, sym, ap, subst, ◌∙◌, append_assoc, get_or, map}
 use Rattle.std.proofs.lemmas.Grind.{take_at_read}
 use Rattle.std.proofs.lemmas.List.{append-nil, map-append}
 use Rattle.std.proofs.lemmas.List.Sums.{fold-append}
@@ -10,9 +10,9 @@ use Rattle.policy_state.specs.declared.basis.Script.{Script}
 use Rattle.policy_state.specs.declared.basis.Timed.{Timed}
 use Rattle.policy_state.specs.declared.basis.UpdateReply.{UpdateReply}
 use Rattle.filter_core.specs.Calls.{update_installs}
-use Rattle.filter_core.specs.Replay.{Arrival, Course, Entry, install, reply, after_event, after_due, after_arrival, after_frame, after_learning, is_learnt, answers_of, passed, begun, finished}
+use Rattle.filter_core.specs.Replay.{Arrival, Course, Entry, install, reply, after_event, after_due, after_arrival, after_frame, answers_of, passed, begun, finished}
 use Rattle.filter_core.specs.Standing.{Standing}
-use Rattle.filter_core.specs.Steps.{Filter, Answered, updated}
+use Rattle.filter_core.specs.Steps.{Filter, updated}
 use Rattle.filter_report.proofs.Telling.{answers-append}
 use Rattle.filter_report.specs.Along.{Along, Reporting, InCourse}
 

@@ -1,12 +1,11 @@
 -- One more entry, and its line, keep what holds between the lines.
-use Rattle.std.proofs.Common.{◌≡◌, ℕ, suc, ◌+◌, ◌-◌, ◌<◌, ◌≤◌, Bool, true, false, cond, List, [], ◌∷◌, ◌++◌, length, length-append, get_or, map, None, refl, sym, ap, subst, ◌∙◌, rules, arith}
+use Rattle.std.proofs.Common.{◌≡◌, ℕ, suc, ◌+◌, ◌-◌, List, [], ◌∷◌, ◌++◌, length, length-append, get_or, None, refl, sym, ap, subst, ◌∙◌, arith}
 use Rattle.std.proofs.lemmas.List.{append_assoc, append-nil, get_or_append_left, map-append}
-use Rattle.std.proofs.lemmas.Grind.{flat_map-append}
 use Rattle.std.proofs.Math.Seq.{get_or-append_seam}
 use Rattle.apf_coding.specs.Run.{run}
-use Rattle.apf_generate.specs.Means.{Means, memory_after}
+use Rattle.apf_generate.specs.Means.{memory_after}
 use Rattle.data_counters.specs.declared.counter.Counter.{Counter}
-use Rattle.policy_state.specs.Whole.{Fate, verdict_of, counter_of}
+use Rattle.policy_state.specs.Whole.{verdict_of, counter_of}
 use Rattle.policy_state.specs.declared.basis.Answer.{Answer}
 use Rattle.filter_core.proofs.Answering.{meaning}
 use Rattle.filter_core.proofs.Counting.{memory_of-more}

@@ -1,8 +1,8 @@
 -- Events, and the start.
-use Rattle.std.proofs.Common.{◌≡◌, ℕ, suc, get_or, ◌+◌, ◌<◌, ◌≤◌, nat_le, Bool, true, false, cond, List, [], ◌∷◌, ◌++◌, length, take, drop, fold, replicate, refl, sym, ap, subst, ◌∙◌, arith, append_assoc}
+use Rattle.std.proofs.Common.{◌≡◌, ℕ, suc, get_or, ◌+◌, ◌<◌, ◌≤◌, Bool, true, false, cond, List, [], ◌∷◌, ◌++◌, length, take, drop, fold, refl, sym, ap, subst, ◌∙◌, arith}
 use Rattle.std.proofs.Math.Seq.{drop-cons}
 use Rattle.std.proofs.lemmas.Grind.{take_at_read}
-use Rattle.std.proofs.lemmas.List.{append-nil, drop_all, take_all, take-append-drop}
+use Rattle.std.proofs.lemmas.List.{drop_all, take_all, take-append-drop}
 use Rattle.std.proofs.lemmas.List.Sums.{fold-append}
 use Rattle.policy_state.specs.declared.basis.Script.{Script}
 use Rattle.policy_state.specs.declared.basis.Timed.{Timed}
@@ -15,7 +15,7 @@ use Rattle.filter_core.proofs.Counting.{memory_of-none}
 use Rattle.filter_core.specs.Calls.{Renews, update_installs}
 use Rattle.filter_core.specs.Coded.{plain}
 use Rattle.filter_core.specs.Installs.{Installed, install_of}
-use Rattle.filter_core.specs.Replay.{Course, install, reply, tells, update_entries, after_event, after_due, is_due, begun}
+use Rattle.filter_core.specs.Replay.{Course, reply, tells, update_entries, after_event, after_due, is_due, begun}
 use Rattle.filter_core.specs.Standing.{Standing, filter_of}
 use Rattle.filter_core.specs.Steps.{Filter, first, updated}
 use Rattle.script_text.specs.Report.{gen_line, update_line}

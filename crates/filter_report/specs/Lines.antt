@@ -1,5 +1,5 @@
 -- Lines that are written one by one. A line has its line feed.
-use Rattle.std.specs.Prelude.{◌≡◌, ℕ, ⊤, List, ◌++◌, Option}
+use Rattle.std.specs.Prelude.{ℕ, ⊤, List, ◌++◌, Option}
 use Rattle.std.specs.List.{concat}
 use Rattle.std.specs.Io.KnownBytes.{Appends}
 use Rattle.apf_base.specs.Streams.{AppendsFront}

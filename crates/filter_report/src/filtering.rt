@@ -92,8 +92,8 @@ fn with_one(one: bool, count: u64) -> u64
 impl Filtering {
     /// Makes the first install of a script, and writes its line.
     ///
-    /// `TooLarge` comes exactly where the base of the first state is more than the limit. `OutOfMemory` comes also of a script
-    /// of more than 4294967295 events. Nothing is written in either case.
+    /// `TooLarge` comes exactly where the base of the first state is more than the limit. `OutOfMemory` comes where memory runs
+    /// out, and for a script of more than 4294967295 events. Nothing is written in these cases.
     pub fn begin<O: Sink>(
         alloc: Global,
         script: Script,

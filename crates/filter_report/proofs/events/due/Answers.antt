@@ -1,5 +1,5 @@
-use Rattle.std.proofs.Common.{refl, rules, arith, sym, ap, ◌∙◌, ◌≡◌, ◌≤◌, ℕ, take, drop, fold, get_or}
-use Rattle.filter_core.specs.Replay.{Course, after_event}
+use Rattle.std.proofs.Common.{refl, rules, arith, sym, ap, ◌∙◌, ℕ, take, drop, fold, get_or}
+use Rattle.filter_core.specs.Replay.{after_event}
 use Rattle.filter_report.proofs.Updating.{due_step, due_stop, due_all, no_event}
 use Rattle.filter_report.proofs.events.due.Goals as goal
 

@@ -1,4 +1,4 @@
-use Rattle.std.proofs.Common.{◌≡◌, ◌≤◌, take, drop, fold}
+use Rattle.std.proofs.Common.{◌≡◌, take, drop, fold}
 use Rattle.filter_core.specs.Replay.{Course, after_event, after_due}
 use Rattle.filter_report.proofs.events.due.Given as goal
 

@@ -1,4 +1,4 @@
-use Rattle.std.proofs.Common.{refl, rules, arith, sym, ap, ◌∙◌, Ok, ◌≡◌}
+use Rattle.std.proofs.Common.{sym}
 use Rattle.std.proofs.lemmas.Result.{IfOk-weaker}
 use Rattle.filter_report.proofs.Learning.{renews_number}
 use Rattle.filter_report.proofs.Updating.{told_event, line_of_other}

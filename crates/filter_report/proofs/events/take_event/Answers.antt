@@ -1,4 +1,4 @@
-use Rattle.std.proofs.Common.{refl, rules, arith, sym, ap, ◌∙◌, ◌≡◌, ◌++◌, ◌∷◌, []}
+use Rattle.std.proofs.Common.{◌++◌, ◌∷◌, []}
 use Rattle.std.proofs.lemmas.Result.{err_from_is_err_and}
 use Rattle.filter_core.specs.Replay.{after_event}
 use Rattle.filter_report.proofs.Adding.{adds_these, breaks_none, breaks_these}

@@ -1,4 +1,4 @@
-use Rattle.std.proofs.Common.{refl, rules, arith, sym, ap, subst, ◌∙◌, ◌≡◌, ◌++◌, ◌∷◌, ◌+◌, [], List, ℕ, take, fold, get_or}
+use Rattle.std.proofs.Common.{refl, rules, arith, sym, subst, take, fold, get_or}
 use Rattle.std.proofs.lemmas.Result.{err_from_is_err_and}
 use Rattle.filter_core.specs.Replay.{Course, after_event}
 use Rattle.filter_report.proofs.Adding.{adds_adds, adds_breaks, adds_none, breaks_later, passed_on}

@@ -1,4 +1,4 @@
-use Rattle.std.proofs.Common.{◌≡◌, ◌≤◌, ◌+◌, List, ℕ, take, fold}
+use Rattle.std.proofs.Common.{◌≤◌, ◌+◌, List, ℕ, take, fold}
 use Rattle.filter_core.specs.Replay.{Course, after_event}
 use Rattle.filter_report.specs.Along.{Along}
 use Rattle.filter_report.specs.Lines.{Adds}

@@ -1,4 +1,4 @@
-use Rattle.std.proofs.Common.{refl, ◌≡◌, ◌∙◌, sym, ap, Ok, Err}
+use Rattle.std.proofs.Common.{refl}
 use Rattle.policy_state.specs.States.{start}
 use Rattle.size_fit.specs.Sizes.{base, limit_of}
 use Rattle.filter_report.proofs.filtering.start_core.Goals as goal

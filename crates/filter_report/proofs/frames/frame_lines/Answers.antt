@@ -1,4 +1,4 @@
-use Rattle.std.proofs.Common.{refl, rules, arith, sym, ap, ◌∙◌, ◌≡◌, ◌∷◌, ◌++◌, ◌+◌, [], true, false, Bool, None, List, ℕ}
+use Rattle.std.proofs.Common.{rules, sym, ap, ◌∙◌, ◌∷◌, ◌+◌, [], Bool, None, List, ℕ}
 use Rattle.filter_report.proofs.Learning.{frame_kept, frame_learnt, frame_passed, lines_behind}
 use Rattle.filter_core.specs.Replay.{passed, answers_of}
 use Rattle.script_text.specs.Report.{frame_line}

@@ -1,6 +1,6 @@
-use Rattle.std.proofs.Common.{refl, rules, arith, sym, ap, ◌∙◌, ◌≡◌, ◌∷◌, ◌++◌, [], true, false, List, ℕ}
+use Rattle.std.proofs.Common.{rules, ap, ◌∙◌, ◌∷◌, [], true, false, List, ℕ}
 use Rattle.filter_core.specs.Standing.{filter_of}
-use Rattle.filter_report.proofs.Learning.{learning_along, renews_number, reply_is_advertisement, reply_has_memory, two_lines}
+use Rattle.filter_report.proofs.Learning.{learning_along, reply_is_advertisement, reply_has_memory, two_lines}
 use Rattle.filter_core.specs.declared.install.Install.{Install}
 use Rattle.script_text.specs.Report.{gen_line}
 use Rattle.filter_report.proofs.frames.learnt_lines.Goals as goal

@@ -1,4 +1,4 @@
-use Rattle.std.proofs.Common.{refl, rules, [], arith, ◌∙◌}
+use Rattle.std.proofs.Common.{rules, arith, ◌∙◌}
 use Rattle.std.proofs.KnownBytes.{Appends-nil}
 use Rattle.std.proofs.lemmas.Result.{err_from_is_err_and}
 use Rattle.filter_report.proofs.Adding.{one_more_line, line_fails, all_lines}

@@ -1,4 +1,4 @@
-use Rattle.std.proofs.Common.{◌≡◌, ◌≤◌, ◌++◌, List, ℕ, take}
+use Rattle.std.proofs.Common.{◌≤◌, take}
 use Rattle.filter_report.specs.Lines.{AppendsAll}
 use Rattle.filter_report.proofs.writing.write_lines.Given as goal
 

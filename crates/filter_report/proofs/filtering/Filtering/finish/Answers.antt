@@ -1,4 +1,4 @@
-use Rattle.std.proofs.Common.{refl, rules, arith, sym, ◌∙◌, ◌≡◌, ◌++◌, [], List, ℕ}
+use Rattle.std.proofs.Common.{[]}
 use Rattle.std.proofs.lemmas.Result.{err_from_is_err_and}
 use Rattle.filter_core.specs.Replay.{finished, totals}
 use Rattle.filter_report.proofs.Adding.{adds_known, breaks_known, breaks_later, err_breaks, ok_adds, passed_on}

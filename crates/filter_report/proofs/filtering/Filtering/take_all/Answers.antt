@@ -1,8 +1,8 @@
-use Rattle.std.proofs.Common.{refl, rules, arith, sym, ap, subst, ◌∙◌, ◌≡◌, ◌++◌, ◌∷◌, ◌+◌, [], List, ℕ, take, fold, map, get_or}
+use Rattle.std.proofs.Common.{refl, rules, arith, sym, subst, ◌++◌, ◌∷◌, ◌+◌, [], List, ℕ, take, fold, map, get_or}
 use Rattle.std.proofs.lemmas.List.{append-nil, take_all}
 use Rattle.pcap_files.specs.declared.kinds.Placed.{Placed}
 use Rattle.std.proofs.lemmas.Result.{err_from_is_err_and}
-use Rattle.filter_core.specs.Replay.{Course, after_arrival}
+use Rattle.filter_core.specs.Replay.{after_arrival}
 use Rattle.pcap_files.specs.Capture.{frame_of}
 use Rattle.filter_report.proofs.Adding.{adds_adds, adds_breaks, adds_later, adds_none, breaks_later, passed_on}
 use Rattle.filter_report.proofs.Leading.{along_fits, leads_records}

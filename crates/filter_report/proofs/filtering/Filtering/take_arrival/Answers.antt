@@ -1,7 +1,7 @@
-use Rattle.std.proofs.Common.{refl, rules, arith, sym, ap, ◌∙◌, ◌≡◌, ◌++◌, ◌∷◌, []}
-use Rattle.std.proofs.lemmas.Result.{err_from_is_err_and, on_ok_weaker}
+use Rattle.std.proofs.Common.{◌++◌, ◌∷◌, []}
+use Rattle.std.proofs.lemmas.Result.{err_from_is_err_and}
 use Rattle.filter_core.specs.Replay.{Arrival, after_arrival, after_due}
-use Rattle.filter_report.proofs.Adding.{adds_adds, adds_breaks, breaks_later, passed_on, ok_adds, err_breaks}
+use Rattle.filter_report.proofs.Adding.{breaks_later, passed_on, ok_adds, err_breaks}
 use Rattle.filter_report.proofs.Leading.{along_fits, leads_arrival}
 use Rattle.filter_report.specs.Along.{InCourse}
 use Rattle.filter_report.specs.Lines.{BreaksOff}

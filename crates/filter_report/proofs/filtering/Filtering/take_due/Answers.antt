@@ -1,7 +1,7 @@
-use Rattle.std.proofs.Common.{refl, rules, arith, sym, ap, subst, ◌∙◌, ◌≡◌, ◌++◌, ◌+◌, List, ℕ, take, drop, fold, OnOk, IfErr}
+use Rattle.std.proofs.Common.{refl, sym, ap, subst, ◌∙◌, ◌≡◌, List, ℕ, take, drop, fold, OnOk, IfErr}
 use Rattle.std.proofs.lemmas.List.{drop-drop}
 use Rattle.policy_state.specs.declared.basis.Timed.{Timed}
-use Rattle.filter_core.specs.Replay.{Course, after_event, after_due}
+use Rattle.filter_core.specs.Replay.{after_event, after_due}
 use Rattle.filter_report.proofs.Adding.{ok_before, err_before, ok_later, err_later}
 use Rattle.filter_report.proofs.Leading.{due_leads}
 use Rattle.filter_report.proofs.Reporting.{due_in_course}

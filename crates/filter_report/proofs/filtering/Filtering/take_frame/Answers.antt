@@ -1,4 +1,4 @@
-use Rattle.std.proofs.Common.{refl, rules, arith, sym, ap, ◌∙◌, ◌≡◌, ◌++◌, ◌∷◌, ◌+◌, [], List, ℕ, drop, subst, OnOk, OnErr}
+use Rattle.std.proofs.Common.{refl, arith, sym, ap, ◌∙◌, ◌++◌, ◌∷◌, ◌+◌, [], List, ℕ, drop, subst, OnOk, OnErr}
 use Rattle.std.specs.List.{concat}
 use Rattle.apf_base.specs.Streams.{AppendsFront}
 use Rattle.filter_report.specs.Lines.{AppendsAll}

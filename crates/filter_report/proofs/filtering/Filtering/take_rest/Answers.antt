@@ -1,4 +1,4 @@
-use Rattle.std.proofs.Common.{refl, rules, arith, sym, ap, subst, ◌∙◌, ◌≡◌, ◌≤◌, ◌+◌, [], List, ℕ, drop, length, fold, OnOk, IfErr}
+use Rattle.std.proofs.Common.{refl, arith, sym, ap, subst, ◌∙◌, ◌≡◌, List, ℕ, drop, fold, OnOk, IfErr}
 use Rattle.std.proofs.lemmas.List.{drop_all}
 use Rattle.policy_state.specs.declared.basis.Timed.{Timed}
 use Rattle.filter_core.specs.Replay.{after_event, finished}

@@ -1,4 +1,4 @@
-use Rattle.std.proofs.Common.{refl, rules, arith, sym, ap, subst, ◌∙◌, ◌≡◌, ◌+◌, [], List, ℕ, drop, OnOk, OnErr}
+use Rattle.std.proofs.Common.{sym, ap, subst, ◌∙◌, ◌+◌, List, ℕ, drop, OnOk, OnErr}
 use Rattle.std.specs.List.{concat}
 use Rattle.apf_base.specs.Streams.{AppendsFront}
 use Rattle.filter_report.proofs.Summing.{totals_of}
