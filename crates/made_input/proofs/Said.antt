@@ -5,7 +5,7 @@ use Rattle.std.specs.Char.{is_ascii_digit}
 use Rattle.std.specs.Fmt.{decimal, digits}
 use Rattle.std.specs.List.{AllByRecursion, list_all, flat_map, range_with_len, onto_first, enumerate_from}
 use Rattle.std.specs.Str.Parse.{digits_value}
-use Rattle.std.proofs.lemmas.Bool.{and_parts, and_from}
+use Rattle.std.proofs.lemmas.Bool.{and_parts, and_from, ne_eqb}
 use Rattle.std.proofs.lemmas.Bool.Decides.{nat_tests}
 use Rattle.std.proofs.lemmas.Fmt.{digits_decimal, length-decimal-le}
 use Rattle.std.proofs.lemmas.List.{length-append}
@@ -69,6 +69,11 @@ words_plain : (on : Bool) → list_all (lacks 10) (cond on (codes " doze on") (c
 words_plain true = refl
 words_plain false = refl
 
+not_hash : (b : ℕ) (rest : List ℕ) → eqb b 35 ≡ false → is_skipped (b ∷ rest) ≡ false
+not_hash b rest e =
+    let some : eqb (suc (length rest)) 0 ≡ false = ne_eqb (suc (length rest)) 0 (λ none. omega arith) in
+    rw (some, e) refl
+
 doze_is_line : (j : ℕ) → doze_second j < 2 ^ 64 → IsLine (doze_line j)
 unfolding doze_line
 doze_is_line j small =
@@ -76,17 +81,30 @@ doze_is_line j small =
     record {
       plain = list_all-append (lacks 10) (codes "at " ++ decimal (doze_second j)) (cond (is_odd j) (codes " doze on") (codes " doze off"))
           ∙ and_from _ _ (list_all-append (lacks 10) (codes "at ") (decimal (doze_second j)) ∙ and_from _ _ refl number) (words_plain (is_odd j));
-      kept = refl;
+      kept = not_hash 97 (codes "t " ++ decimal (doze_second j) ++ cond (is_odd j) (codes " doze on") (codes " doze off")) refl;
     }
 
 doze_are_lines : (a m : ℕ) → doze_second (a + m) < 2 ^ 64 → AllByRecursion IsLine (map doze_line (range_with_len a m))
 doze_are_lines a zero small = tt
 doze_are_lines a (suc m) small = (doze_is_line a (omega arith), doze_are_lines (a + 1) m (omega arith))
 
+-- the same as a test
+abbrev is_line : List ℕ → Bool
+is_line line = list_all (lacks 10) line && not (is_skipped line)
+
+not_true : (b : Bool) → not b ≡ true → b ≡ false
+not_true true e = absurd cc
+not_true false e = refl
+
+lines_from : (lines later : List (List ℕ)) → list_all is_line lines ≡ true → AllByRecursion IsLine later → AllByRecursion IsLine (lines ++ later)
+lines_from [] later e rest = rest
+lines_from (l ∷ ls) later e rest =
+    let parts = and_parts (is_line l) (list_all is_line ls) e in
+    let line = and_parts (list_all (lacks 10) l) (not (is_skipped l)) parts.0 in
+    (record { plain = line.0; kept = not_true (is_skipped l) line.1 }, lines_from ls later parts.1 rest)
+
 made_are_lines : (n : ℕ) → n ≤ 100000 → AllByRecursion IsLine (made_lines n)
-made_are_lines n le =
-    let here : {l : List ℕ} → list_all (lacks 10) l ≡ true → is_skipped l ≡ false → IsLine l = λ {l} p k. record { plain = p; kept = k } in
-    (here refl refl, (here refl refl, (here refl refl, (here refl refl, (here refl refl, (here refl refl, (here refl refl, (here refl refl, doze_are_lines 1 (n / 10) (omega arith)))))))))
+made_are_lines n le = lines_from opening (map doze_line (range_with_len 1 (n / 10))) refl (doze_are_lines 1 (n / 10) (omega arith))
 
 -- ---- the lines of what it says
 
@@ -110,7 +128,7 @@ lines_are n = ap (λ (t : List (List ℕ)). opening ++ t) (events_are (range_wit
 
 mac_fits : IsBytes (0x02 ∷ 0x00 ∷ 0x00 ∷ 0x00 ∷ 0x00 ∷ 0x01 ∷ [])
 mac_fits =
-    bytes-cons 2 _ (lit< tt) (bytes-cons 0 _ (lit< tt) (bytes-cons 0 _ (lit< tt) (bytes-cons 0 _ (lit< tt) (bytes-cons 0 _ (lit< tt) (bytes-cons 1 [] (lit< tt) (λ k. omega arith))))))
+    bytes-cons 2 (0 ∷ 0 ∷ 0 ∷ 0 ∷ 1 ∷ []) (lit< tt) (bytes-cons 0 (0 ∷ 0 ∷ 0 ∷ 1 ∷ []) (lit< tt) (bytes-cons 0 (0 ∷ 0 ∷ 1 ∷ []) (lit< tt) (bytes-cons 0 (0 ∷ 1 ∷ []) (lit< tt) (bytes-cons 0 (1 ∷ []) (lit< tt) (bytes-cons 1 [] (lit< tt) (λ k. omega arith))))))
 
 events_fit : (a m : ℕ) → doze_second (a + m) < 2 ^ 32 → AllByRecursion IsEvent (map doze_event (range_with_len a m))
 events_fit a zero small = tt
