@@ -1,9 +1,9 @@
 -- A made script is a script.
-use Rattle.std.proofs.Common.{◌≡◌, ℕ, zero, suc, ◌+◌, ◌*◌, ◌/◌, ◌^◌, ◌<◌, ◌≤◌, Bool, true, false, ◌&&◌, not, cond, eqb, List, [], ◌∷◌, ◌++◌, length, refl, sym, ap, ◌∙◌, arith, rules, append_assoc, lit≤, lit<}
+use Rattle.std.proofs.Common.{◌≡◌, ℕ, zero, suc, ◌+◌, ◌/◌, ◌^◌, ◌<◌, ◌≤◌, Bool, true, false, ◌&&◌, not, cond, eqb, List, [], ◌∷◌, ◌++◌, length, refl, sym, ap, ◌∙◌, arith, rules, append_assoc, lit≤, lit<}
 use Rattle.std.specs.Prelude.{map, codes}
 use Rattle.std.specs.Char.{is_ascii_digit}
 use Rattle.std.specs.Fmt.{decimal, digits}
-use Rattle.std.specs.List.{AllByRecursion, list_all, flat_map, range_with_len, onto_first, enumerate_from}
+use Rattle.std.specs.List.{AllByRecursion, list_all, flat_map, range_with_len, onto_first}
 use Rattle.std.specs.Str.Parse.{digits_value}
 use Rattle.std.proofs.lemmas.Bool.{and_parts, and_from, ne_eqb}
 use Rattle.std.proofs.lemmas.Bool.Decides.{nat_tests}
@@ -13,7 +13,6 @@ use Rattle.std.proofs.lemmas.List.Elements.{All-from_recursion}
 use Rattle.std.proofs.lemmas.List.Folds.{list_all-append}
 use Rattle.std.proofs.lemmas.Str.Parse.{IsNumeralModel, numerals_by_value}
 use Rattle.hex.specs.Hex.{encode_with, IsBytes}
-use Rattle.policy_state.specs.declared.basis.Timed.{Timed}
 use Rattle.script_text.specs.ScriptLines.{lines_of, is_skipped, numbered, event_line, switch_word, lines_saying, IsEvent}
 use Rattle.script_text.specs.Scripts.{IsSound, Says}
 use Rattle.script_text.proofs.AddressWords.{lacks, digits_lack}

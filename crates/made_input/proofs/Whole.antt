@@ -1,12 +1,12 @@
 -- A made capture reads back.
-use Rattle.std.proofs.Common.{◌≡◌, ℕ, zero, suc, ◌+◌, ◌*◌, ◌^◌, ◌<◌, ◌≤◌, false, List, [], ◌∷◌, ◌++◌, length, Some, None, refl, sym, ap, ◌∙◌, arith}
+use Rattle.std.proofs.Common.{◌≡◌, ℕ, zero, suc, ◌+◌, ◌*◌, ◌≤◌, List, [], ◌∷◌, ◌++◌, length, Some, None, refl, sym, ap, ◌∙◌, arith}
 use Rattle.std.specs.Prelude.{map}
 use Rattle.std.specs.List.{flat_map, range_with_len}
-use Rattle.std.proofs.lemmas.List.{flat_map_more, length-append, map-append, append-nil}
+use Rattle.std.proofs.lemmas.List.{flat_map_more, length-append, map-append}
 use Rattle.pcap_files.specs.declared.kinds.Stamp.{Stamp}
 use Rattle.pcap_files.specs.declared.kinds.Placed.{Placed}
 use Rattle.pcap_files.specs.declared.kinds.Records.{Records}
-use Rattle.pcap_files.specs.Capture.{capture, frame_of, frames, faultless, head_bytes, record_bytes, IsInRange}
+use Rattle.pcap_files.specs.Capture.{capture, frame_of, frames, head_bytes, record_bytes, IsInRange}
 use Rattle.pcap_files.proofs.Adding.{head_reads_back, put_reads_back}
 use Rattle.made_input.specs.MadeFrames.{made_frame}
 use Rattle.made_input.specs.MadeCaptures.{made_kind, made_stamp, made_record, made_capture}

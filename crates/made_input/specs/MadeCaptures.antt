@@ -1,5 +1,5 @@
 -- Made captures: the made frames with a second each, in a file that is little-endian and has microseconds.
-use Rattle.std.specs.Prelude.{ℕ, ◌+◌, Bool, false, List, ◌++◌, length}
+use Rattle.std.specs.Prelude.{ℕ, ◌+◌, false, List, ◌++◌, length}
 use Rattle.std.specs.List.{flat_map, range_with_len}
 use Rattle.pcap_files.specs.declared.kinds.Kind.{Kind}
 use Rattle.pcap_files.specs.declared.kinds.Stamp.{Stamp}

@@ -8,6 +8,8 @@ mod capture;
 mod frames;
 mod laws;
 mod script;
+#[cfg(test)]
+mod tests;
 
 pub use capture::made_capture;
 pub use frames::made_frame;

@@ -8,7 +8,15 @@ use apf_base::{List, OutOfMemory};
 use std::alloc::{AllocError, Global};
 
 /// The lines that each script begins with.
-const OPENING: &str = "apf 1\nmac 02:00:00:00:00:01\ncapacity 2048\nstart 1000\ndrop802 on\ndeny 88a2\nat 1000 multicast on\nat 1000 address 192.168.1.5/24\n";
+const OPENING: &str = "apf 1
+mac 02:00:00:00:00:01
+capacity 2048
+start 1000
+drop802 on
+deny 88a2
+at 1000 multicast on
+at 1000 address 192.168.1.5/24
+";
 
 /// Adds the jth change of the doze.
 #[tactic(auto, unfolding(crate::specs::MadeScripts::doze_line))]
