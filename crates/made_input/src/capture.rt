@@ -1,6 +1,6 @@
 //! The made capture.
 
-ghost use Rattle.std.specs.Prelude.{◌≡◌, ◌≤◌, ◌<◌, ◌+◌, ◌^◌, ◌++◌, length, OnOk, IfOk};
+ghost use Rattle.std.specs.Prelude.{◌≡◌, ◌≤◌, ◌++◌, OnOk, IfOk};
 ghost use Rattle.pcap_files.specs.Capture.{head_bytes};
 ghost use Rattle.made_input.specs.MadeCaptures.{made_kind, made_record, made_capture};
 

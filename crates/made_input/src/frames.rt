@@ -1,6 +1,6 @@
 //! The made frames.
 
-ghost use Rattle.std.specs.Prelude.{◌≡◌, ◌≤◌, ◌<◌, length, IfOk};
+ghost use Rattle.std.specs.Prelude.{◌≡◌, IfOk};
 ghost use Rattle.made_input.specs.MadeFrames.{arp_frame, datagram, advertisement, denied_frame, name_query, made_frame};
 
 use apf_base::{List, OutOfMemory};
@@ -135,9 +135,9 @@ fn name_query(alloc: Global) -> Result<List<u8>, OutOfMemory>
     List::of(alloc, NAME_QUERY)
 }
 
-/// The made frame of a number, by its rest by 6: an ARP request, a datagram, a broadcast, an advertisement, a denied
-/// frame, a multicast. The last byte of what the request asks for is the number's lowest byte, and that of the
-/// advertisement's source goes round by 0, 1 and 2.
+/// The made frame of a number, by its rest by 6, from 0 on: an ARP request, a datagram, a broadcast, a router
+/// advertisement, a frame of a denied EtherType, a multicast. The last byte of the address that the request asks for is
+/// the number's lowest byte. That of the advertisement's source is 0, 1 and 2 in turn.
 #[tactic(auto, unfolding(crate::specs::MadeFrames::made_frame))]
 pub fn made_frame(alloc: Global, k: u32) -> Result<List<u8>, OutOfMemory>
     ensures { IfOk result (λ frame. frame ≡ made_frame k) }

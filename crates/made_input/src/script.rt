@@ -46,8 +46,8 @@ fn script_text(alloc: Global, changes: u32) -> Result<String, AllocError>
     Ok(text)
 }
 
-/// The made script of a number: the first six lines, two changes at the start, and then for each 10 that the number has
-/// another change of the doze.
+/// The made script of a number n: the first six lines, two changes at the start, and then for each j from 1 on, while
+/// 10 j is at most n, a change of the doze at second 1000 + 10 j: on for odd j, off for even j.
 pub fn made_script(alloc: Global, n: u32) -> Result<List<u8>, OutOfMemory>
     requires { n ≤ 100000 }
     ensures { IfOk result (λ text. text ≡ made_script n) }
