@@ -1,0 +1,5 @@
+pub mod Counting
+pub mod Records
+pub mod SaidLines
+pub mod Said
+pub mod Whole

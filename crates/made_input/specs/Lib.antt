@@ -1,0 +1,3 @@
+pub mod MadeCaptures
+pub mod MadeFrames
+pub mod MadeScripts

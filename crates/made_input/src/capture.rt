@@ -1,0 +1,44 @@
+//! The made capture.
+
+ghost use Rattle.std.specs.Prelude.{◌≡◌, ◌≤◌, ◌++◌, OnOk, IfOk};
+ghost use Rattle.pcap_files.specs.Capture.{head_bytes};
+ghost use Rattle.made_input.specs.MadeCaptures.{made_kind, made_record, made_capture};
+
+use crate::frames::made_frame;
+use apf_base::{List, OutOfMemory};
+use pcap_files::{Kind, Stamp, head, put};
+use std::alloc::Global;
+
+/// Little-endian, with microseconds.
+const KIND: Kind = Kind {
+    big: false,
+    nano: false,
+};
+
+/// Adds the record of a frame.
+fn add_record(alloc: Global, k: u32, out: &mut List<u8>) -> Result<(), OutOfMemory>
+    requires { k ≤ 100000 }
+    ensures { OnOk result (out.new ≡ out.old ++ made_record k) }
+{
+    let frame = made_frame(alloc, k)?;
+    let stamp = Stamp {
+        sec: 1000 + k,
+        fraction: 0,
+        original: frame.len() as u32,
+    };
+    put(alloc, KIND, stamp, frame.as_slice(), out)
+}
+
+/// The made capture of a number n: little-endian, with microseconds, and the made frames from 1 to n, of which frame k
+/// comes at second 1000 + k.
+pub fn made_capture(alloc: Global, n: u32) -> Result<List<u8>, OutOfMemory>
+    requires { n ≤ 100000 }
+    ensures { IfOk result (λ bytes. bytes ≡ made_capture n) }
+{
+    let mut bytes = List::new(alloc);
+    head(alloc, KIND, &mut bytes)?;
+    for k in 1..n + 1 {
+        add_record(alloc, k, &mut bytes)?;
+    }
+    Ok(bytes)
+}
