@@ -1,5 +1,5 @@
 -- What clap says of plain words, and what the words are split into.
-use Rattle.std.proofs.Common.{◌≡◌, ◌⊎◌, ◌∙◌, ◌==◌, ◌&&◌, ℕ, Bool, true, false, not, true≢false, refl, sym, ap, subst, inl, inr, List, [], ◌∷◌, Option, Some, None, codes, if◌then◌else◌}
+use Rattle.std.proofs.Common.{◌≡◌, ◌∙◌, ◌==◌, Bool, true, false, true≢false, refl, sym, ap, subst, inl, inr, List, [], ◌∷◌, Option, None, codes, if◌then◌else◌}
 use Rattle.std.specs.List.{list_all}
 use Rattle.std.specs.Str.{bytes_eq}
 use Rattle.std.proofs.lemmas.Bool.{eqb-true}

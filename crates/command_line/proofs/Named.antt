@@ -1,8 +1,8 @@
 -- The walk at the first word, above the commands.
-use Rattle.std.proofs.Common.{◌≡◌, ◌∙◌, ◌&&◌, Bool, true, false, true≢false, refl, sym, ap, ap₂, subst, List, [], ◌∷◌, ◌++◌, Option, Some, None, is_some, codes}
+use Rattle.std.proofs.Common.{◌≡◌, ◌∙◌, true, false, refl, sym, ap, ap₂, List, [], ◌∷◌, Some, None, is_some, codes}
 use Rattle.std.specs.List.{find, fold, list_all}
 use Rattle.std.specs.Str.{bytes_eq}
-use Rattle.clap.specs.Walk.{Held, Names, Row, Rule, Step, Text, Walk, answers_to, finished, idle, nothing_held, rows_after, settled, stop_after, subcommand, subcommand_met, value, walk, walk_from, walked, word_met}
+use Rattle.clap.specs.Walk.{Names, Row, Text, Walk, answers_to, finished, idle, nothing_held, rows_after, settled, stop_after, subcommand_met, walk, walk_from, walked}
 use Rattle.clap.specs.Simple.{App, Shape, built, entered, label_of, names_of, subcommand_of}
 use Rattle.clap.specs.Kinds.{Kinds, or_else}
 use Rattle.clap.specs.Faults.{check_fault, defaults_fault, entered_fault, fault_of, level_fault, settle_fault, turn_fault, walk_fault}
@@ -12,7 +12,7 @@ use Rattle.clap.proofs.WalkLemmas.{walk_stopped}
 use Rattle.clap.proofs.OnLiterals.{clap_on_literals}
 use Rattle.command_line.specs.Lines.{is_plain}
 use Rattle.command_line.specs.Parses.{commands}
-use Rattle.command_line.proofs.PlainWalk.{begun, level_plain, plain_level, plain_rows, plain_turn, resting, rows_plain}
+use Rattle.command_line.proofs.PlainWalk.{begun, level_plain, plain_level, plain_rows, plain_turn, rows_plain}
 
 abbrev pub app : App
 app = built commands

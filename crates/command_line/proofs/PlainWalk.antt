@@ -1,9 +1,7 @@
 -- The walk over plain words, which are values of positionals.
-use Rattle.std.proofs.Common.{◌≡◌, ◌∙◌, ◌&&◌, ◌||◌, ◌+◌, ◌==◌, ℕ, Bool, cond, true, false, not, true≢false, refl, sym, ap, ap₂, arith, List, [], ◌∷◌, Option, Some, None}
+use Rattle.std.proofs.Common.{◌≡◌, ◌∙◌, ◌||◌, ◌==◌, ℕ, Bool, true, false, not, true≢false, refl, sym, ap, ap₂, List, [], ◌∷◌, Option, Some, None}
 use Rattle.std.specs.List.{fold, list_all}
-use Rattle.std.specs.Str.{bytes_eq}
-use Rattle.clap.specs.Lexer.{long_of, short_of}
-use Rattle.clap.specs.Walk.{Held, Names, Row, Rule, Step, Text, Waiting, Walk, after_step, idle, positional, value, arg_by_index, finished, is_multiple, long_or_other, next_position, nothing_held, positional_held, rows_after, settled, subcommand_met, subcommand_or_other, to_positional, walk, walk_from, walked, word_met}
+use Rattle.clap.specs.Walk.{Held, Names, Row, Rule, Step, Text, Waiting, Walk, after_step, idle, positional, value, arg_by_index, finished, is_multiple, next_position, nothing_held, positional_held, rows_after, settled, subcommand_met, subcommand_or_other, to_positional, walked, word_met}
 use Rattle.clap.specs.Simple.{Shape}
 use Rattle.clap.specs.Kinds.{Kinds, or_else}
 use Rattle.clap.specs.Faults.{check_fault, defaults_fault, level_fault, other_fault, settle_fault, step_fault, turn_fault, walk_fault, word_fault}

@@ -1,5 +1,5 @@
 -- The commands as the parser of command lines sees them, and the command and words that a parse found.
-use Rattle.std.specs.Prelude.{true, false, List, [], ◌∷◌, map, fold, codes, Option, None, Some, if◌then◌else◌}
+use Rattle.std.specs.Prelude.{true, List, [], ◌∷◌, map, fold, codes, Option, None, Some, if◌then◌else◌}
 use Rattle.std.specs.Str.{bytes_eq}
 use Rattle.clap.specs.Words.{App, Row, Rule, Text, first_of, new_app, new_rule, with_rule, with_subcommand}
 use Rattle.command_line.specs.Lines.{Line, exec, asm, disasm, program_for, filter, make, live}

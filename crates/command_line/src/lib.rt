@@ -5,10 +5,12 @@
 #![tactic(auto)]
 
 mod commands;
+mod sharing;
 mod splitting;
 #[cfg(test)]
 mod tests;
 mod values;
 
+pub use sharing::types_are_shared;
 pub use splitting::split;
 pub use values::Split;

@@ -7,7 +7,7 @@ ghost use Rattle.command_line.specs.Lines.{texts, is_plain, split_of};
 ghost use Rattle.command_line.specs.Shown.{shown};
 
 use crate::commands::commands;
-use crate::values::{line_in, Split};
+use crate::values::{Split, line_in};
 use apf_base::OutOfMemory;
 use clap::error::ErrorKind;
 use std::alloc::Global;

@@ -18,9 +18,13 @@ pub enum Split<'a> {
         age: &'a str,
     },
     /// `asm TEXT`
-    Asm { text: &'a str },
+    Asm {
+        text: &'a str,
+    },
     /// `disasm PROGRAM`
-    Disasm { program: &'a str },
+    Disasm {
+        program: &'a str,
+    },
     /// `program MAC CAPACITY ADDRESS FLAGS`
     Program {
         mac: &'a str,
@@ -29,9 +33,15 @@ pub enum Split<'a> {
         flags: &'a str,
     },
     /// `filter SCRIPT CAPTURE`
-    Filter { script: &'a str, capture: &'a str },
+    Filter {
+        script: &'a str,
+        capture: &'a str,
+    },
     /// `make WHAT N`
-    Make { what: &'a str, n: &'a str },
+    Make {
+        what: &'a str,
+        n: &'a str,
+    },
     /// `live SCRIPT CAPTURE LANES`
     Live {
         script: &'a str,

@@ -1,7 +1,7 @@
-use Rattle.std.proofs.Common.{◌≡◌, ◌∙◌, rules, ap, ap₂, List, [], ◌∷◌, codes, IfOk}
+use Rattle.std.proofs.Common.{◌≡◌, ◌∙◌, ap, ap₂, [], ◌∷◌, codes}
 use Rattle.std.proofs.lemmas.Result.{IfOk-weaker}
 use Rattle.clap.specs.Simple.{App, app_of, with_subcommand}
-use Rattle.command_line.specs.Parses.{leaf, top, commands}
+use Rattle.command_line.specs.Parses.{leaf}
 use Rattle.command_line.proofs.commands.commands.Goals as goal
 
 pub returns : goal.returns
