@@ -6,6 +6,7 @@ use Rattle.command_line.specs.Lines.{Line, exec, asm, disasm, program_for, filte
 
 -- ---- the commands
 
+-- a word that has to stand in its place
 abbrev pub positional : Text → Rule
 positional id = record (new_rule id) { required = true }
 
@@ -13,7 +14,7 @@ positional id = record (new_rule id) { required = true }
 abbrev pub leaf : Text → List Text → App
 leaf name ids = fold with_rule (new_app name) (map positional ids)
 
--- the command above the others
+-- the command above the others: it has no options and no help command, and one of the others has to follow
 abbrev pub top : App
 top = record (new_app (codes "apf_run")) {
   top = record (new_app (codes "apf_run")).top {
@@ -25,9 +26,11 @@ top = record (new_app (codes "apf_run")) {
   };
 }
 
+-- one more command
 abbrev pub with_leaf : App → Text → List Text → App
 with_leaf a name ids = with_subcommand a (leaf name ids).top
 
+-- the seven commands, each with its further words
 abbrev pub commands : App
 commands =
     let a = with_leaf top (codes "exec") (codes "program" ∷ codes "capture" ∷ codes "age" ∷ []) in
@@ -46,6 +49,7 @@ abbrev ◌>>=◌ : {A B : Type 0} → Option A → (A → Option B) → Option B
 (Some x) >>= f = f x
 None >>= f = None
 
+-- the command's words, if each was found
 abbrev pub exec_in : List Row → Option Line
 exec_in rows = do
   program ← first_of (codes "program") rows
@@ -102,6 +106,7 @@ line_found name rows =
     else if bytes_eq name (codes "live") then live_in rows
     else None
 
+-- the command that a parse entered, with its words
 abbrev pub line_in : Option (Text × List Row) → Option Line
 line_in None = None
 line_in (Some (name, rows)) = line_found name rows

@@ -3,6 +3,7 @@ use Rattle.command_line.specs.Lines.{Line, exec, asm, disasm, program_for, filte
 use Rattle.command_line.specs.declared.values.Split.{Split}
 use Rattle.command_line.specs.declared.values.Split.TheVariants.{Exec, Asm, Disasm, Program, Filter, Make, Live}
 
+-- the command and the bytes of its further words
 abbrev pub shown : Split → Line
 shown (Exec program capture age) = exec program.now capture.now age.now
 shown (Asm text) = asm text.now

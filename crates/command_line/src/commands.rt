@@ -9,6 +9,7 @@ ghost use Rattle.command_line.specs.Parses.{positional, leaf, top, commands};
 use clap::{Arg, Command};
 use std::alloc::{AllocError, Global};
 
+/// A word that has to stand in its place.
 fn positional<'a>(alloc: Global, id: &'a str) -> Arg<'a>
     ensures rule { rule_of result ≡ positional id.entry.now }
     ensures local { result.global ≡ false }
@@ -40,6 +41,7 @@ fn top<'a>(alloc: Global) -> Command<'a>
         .subcommand_required(true)
 }
 
+/// The seven commands, each with its further words.
 pub(crate) fn commands<'a>(alloc: Global) -> Result<Command<'a>, AllocError>
     ensures { IfOk result (λ c. app_of c ≡ commands) }
 {

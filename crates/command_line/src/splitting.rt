@@ -12,6 +12,7 @@ use apf_base::OutOfMemory;
 use clap::error::ErrorKind;
 use std::alloc::Global;
 
+/// The word isn't empty and doesn't begin with a dash, so clap takes it for no flag.
 fn is_plain(word: &str) -> bool
     ensures { result ≡ is_plain word.now }
 {

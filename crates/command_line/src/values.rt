@@ -50,6 +50,7 @@ pub enum Split<'a> {
     },
 }
 
+/// The word that was found for a positional argument.
 fn word<'a>(found: &ArgMatches<'a>, id: &str) -> Option<&'a str>
     ensures { option_map (λ s. s.now) result ≡ first_of id.now (rows_of (found_of found.now)) }
 {
@@ -121,6 +122,7 @@ fn live_in<'a>(found: &ArgMatches<'a>) -> Option<Split<'a>>
     })
 }
 
+/// The command that was found below the top one, with its words.
 pub(crate) fn line_in<'a>(matches: &ArgMatches<'a>) -> Option<Split<'a>>
     ensures { option_map shown result ≡ line_in (subcommand_rows_of matches.now) }
 {
