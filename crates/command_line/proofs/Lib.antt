@@ -1,0 +1,4 @@
+mod Agreement
+mod Leaves
+mod Named
+mod PlainWalk
