@@ -10,7 +10,7 @@ use Rattle.apf_asm.specs.Refusals.{answer}
 use Rattle.apf_asm.specs.TextReading.{text_answer}
 use Rattle.apf_run.specs.declared.fault.Input.TheVariants.{Text}
 use Rattle.apf_run.specs.declared.fault.Fault.{Fault}
-use Rattle.apf_run.specs.declared.fault.Fault.TheVariants.{Usage, BadCapture, BadText, Twice, Unknown, Backward, TooLong, CodeTooLong, TooLarge, OutOfMemory, Read, Write, Open}
+use Rattle.apf_run.specs.declared.fault.Fault.TheVariants.{Usage, BadCapture, BadScript, BadText, Twice, Unknown, Backward, TooLong, CodeTooLong, TooLarge, OutOfMemory, Read, Write, Open}
 use Rattle.apf_run.specs.Ends.{end_place, Stops, FileFails}
 use Rattle.apf_run.specs.AsmEnds.{items_end, text_end, asm_end}
 
@@ -41,6 +41,7 @@ by_fault text end (TooLong input) late fails =
     rw (fails.0, long) (inl refl)
 by_fault text end Usage late fails = absurd fails
 by_fault text end (BadCapture fault) late fails = absurd fails
+by_fault text end (BadScript line kind) late fails = absurd fails
 by_fault text end (BadText line kind) late fails = absurd fails
 by_fault text end (Twice item label) late fails = absurd fails
 by_fault text end (Unknown item label) late fails = absurd fails

@@ -10,7 +10,7 @@ use Rattle.apf_disasm.specs.Printing.{line_text, written}
 use Rattle.apf_disasm.proofs.Entries.{IsGood, entries_good}
 use Rattle.apf_disasm.proofs.Parts.{written_is}
 use Rattle.apf_run.specs.declared.fault.Fault.{Fault}
-use Rattle.apf_run.specs.declared.fault.Fault.TheVariants.{Usage, BadCapture, BadText, Twice, Unknown, Backward, TooLong, CodeTooLong, TooLarge, OutOfMemory, Read, Write, Open}
+use Rattle.apf_run.specs.declared.fault.Fault.TheVariants.{Usage, BadCapture, BadScript, BadText, Twice, Unknown, Backward, TooLong, CodeTooLong, TooLarge, OutOfMemory, Read, Write, Open}
 use Rattle.apf_run.specs.declared.fault.Input.TheVariants.{Program}
 use Rattle.apf_run.specs.Lines.{AppendsAll}
 use Rattle.apf_run.specs.Ends.{Meets, LeavesFront, WriteFails}
@@ -53,6 +53,7 @@ writing_meets told old new (Err Write) done fails left =
     ]
 writing_meets told old new (Err Usage) done fails left = absurd fails
 writing_meets told old new (Err (BadCapture fault)) done fails left = absurd fails
+writing_meets told old new (Err (BadScript line kind)) done fails left = absurd fails
 writing_meets told old new (Err (BadText line kind)) done fails left = absurd fails
 writing_meets told old new (Err (Twice item label)) done fails left = absurd fails
 writing_meets told old new (Err (Unknown item label)) done fails left = absurd fails

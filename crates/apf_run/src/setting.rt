@@ -1,4 +1,4 @@
-//! What `program` generates a program for.
+//! What `program` generates a program for, and what `make` makes.
 
 ghost use Rattle.std.specs.Prelude.{◌≤◌};
 
@@ -26,4 +26,24 @@ pub struct ProgramWords {
     pub flags: Flags,
     pub ghost least: { 128 ≤ capacity },
     pub ghost most: { capacity ≤ 8192 },
+}
+
+/// What `make` writes.
+#[derive(Clone, Copy)]
+pub enum What {
+    /// The made script.
+    Script,
+    /// The made capture.
+    Capture,
+    /// The last lines of the report of both.
+    Summary,
+}
+
+/// The values of `make`.
+#[derive(Drop)]
+pub struct MadeWords {
+    pub what: What,
+    /// The number of frames, 1 to 100000.
+    pub n: u32,
+    pub ghost bound: { n ≤ 100000 },
 }

@@ -1,7 +1,7 @@
 use Rattle.std.proofs.Common.{refl, ◌∙◌, ◌++◌}
 use Rattle.std.specs.Prelude.{codes}
 use Rattle.std.proofs.lemmas.Result.{err_from_is_err_and, on_ok_weaker, on_err_weaker}
-use Rattle.apf_run.specs.Words.{texts}
+use Rattle.command_line.specs.Lines.{texts}
 use Rattle.apf_run.specs.Status.{fault_words, fault_name, fault_head}
 use Rattle.apf_run.proofs.Fronts.{front_after, first_fails, third_fails, all_three}
 use Rattle.apf_run.proofs.complain.write_head.Goals as goal

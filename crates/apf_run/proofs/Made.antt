@@ -1,0 +1,127 @@
+-- The made script and the made capture, as the filter takes them.
+use Rattle.std.proofs.Common.{◌≡◌, ◌≤◌, ◌<◌, ◌++◌, ℕ, List, [], length, map, fold, Option, None, Some, Result, Ok, Err, IfOk, refl, sym, ap, subst, ◌∙◌, arith, inl, inr}
+use Rattle.std.specs.List.{concat}
+use Rattle.std.specs.Io.KnownBytes.{Keeps}
+use Rattle.std.proofs.lemmas.List.{length-map}
+use Rattle.std.proofs.lemmas.List.FromFn.{length-map-range_with_len}
+use Rattle.apf_base.specs.Streams.{AppendsFront}
+use Rattle.pcap_files.specs.Capture.{capture, frame_of}
+use Rattle.pcap_files.specs.declared.kinds.Placed.{Placed}
+use Rattle.policy_state.specs.States.{start}
+use Rattle.policy_state.specs.declared.basis.Script.{Script}
+use Rattle.size_fit.specs.Sizes.{base, limit_of}
+use Rattle.script_text.proofs.Faults.{says_again}
+use Rattle.script_text.specs.ScriptLines.{Contents, contents_of}
+use Rattle.script_text.specs.ScriptReading.{Tells, script_answer}
+use Rattle.script_text.specs.Scripts.{Says}
+use Rattle.script_text.specs.declared.script_error.ScriptError.{ScriptError}
+use Rattle.script_text.specs.declared.script_error.ScriptError.TheVariants.{Bad}
+use Rattle.script_text.specs.declared.script_error.ScriptKind.{ScriptKind}
+use Rattle.filter_core.specs.Replay.{Course, after_arrival, begun, course, finished, totals}
+use Rattle.filter_report.specs.Along.{Reporting, InCourse}
+use Rattle.filter_report.specs.Arrivals.{arrivals_of}
+use Rattle.filter_report.specs.Lines.{Adds, AppendsAll}
+use Rattle.filter_report.specs.Text.{entry_lines}
+use Rattle.filter_report.specs.declared.fault.ReportFault.{ReportFault}
+use Rattle.filter_report.specs.declared.fault.ReportFault.TheVariants as reports
+use Rattle.made_input.specs.MadeCaptures.{made_capture, made_stamp}
+use Rattle.made_input.specs.MadeScripts.{made_script, made_contents}
+use Rattle.made_input.proofs.Said.{said, script_short}
+use Rattle.made_input.proofs.Whole.{whole}
+use Rattle.apf_run.specs.Ends.{Meets}
+use Rattle.apf_run.specs.FilterEnds.{fault_of}
+use Rattle.apf_run.specs.MadeText.{IsMade, IsSummary, HasBegunMade, HasEndedMade, summary_lines}
+use Rattle.apf_run.specs.declared.setting.What.TheVariants.{Summary}
+
+-- ---- the script
+
+module _ (n : ℕ) (le : n ≤ 100000) (text : List ℕ) (is : text ≡ made_script n) where
+  pub text_short : length text ≤ 1048576
+  text_short = subst (λ (t : List ℕ). length t ≤ 1048576) (sym is) (script_short n le)
+
+  answered : script_answer text ≡ Ok (made_contents n)
+  answered = ap script_answer is ∙ says_again (made_script n) (made_contents n) (said n le)
+
+  -- a script that is answered says what is made
+  pub read_as : (script : Script) → script_answer text ≡ Ok (contents_of script) → contents_of script ≡ made_contents n
+  read_as script told = same (script_answer text) (contents_of script) (made_contents n) told answered
+    where
+      same : (r : Result Contents ScriptError) (a b : Contents) → r ≡ Ok a → r ≡ Ok b → a ≡ b
+      same r a b e f = cc
+
+  -- no line is refused
+  pub none_bad : (line : ℕ) (kind : ScriptKind) (fault : ScriptError) (result : Result Script ScriptError) → result ≡ Err fault → fault ≡ Bad line kind → Tells contents_of result (script_answer text) → ⊥
+  none_bad line kind fault result e f told =
+      apart (script_answer text) (subst (λ (r : Result Script ScriptError). Tells contents_of r (script_answer text)) (e ∙ ap (λ (x : ScriptError). Err x) f) told) answered
+    where
+      apart : (a : Result Contents ScriptError) → a ≡ Err (Bad line kind) → a ≡ Ok (made_contents n) → ⊥
+      apart a bad ok = cc
+
+-- ---- the filter
+
+module _ (n : ℕ) (script : Script) (is : contents_of script ≡ made_contents n) where
+  few_denied : length script.config.deny ≡ 1
+  unfolding made_contents
+  few_denied = ap (λ (c : Contents). length c.deny) is
+
+  capacity_is : script.config.capacity ≡ 2048
+  unfolding made_contents
+  capacity_is = ap (λ (c : Contents). c.capacity) is
+
+  -- its program has room
+  pub none_large : (need limit : ℕ) → limit < need → need ≡ base script.config start → limit ≡ limit_of script.config → ⊥
+  none_large need limit lt a b =
+      let denied = few_denied in
+      let size = capacity_is in
+      omega (arith, lt, a, b, denied, size)
+
+  pub begun_made : (result : Result Reporting ReportFault) → n ≤ 100000 → IfOk result (λ f. Adds (λ lines. lines ≡ []) (InCourse (begun script) f []) None None) → IfOk result (HasBegunMade n)
+  begun_made (Ok f) le adds = let r = adds [] refl in (script, subst (Says (made_script n)) (sym is) (said n le), r.0, r.2)
+  begun_made (Err fault) le adds = tt
+
+-- ---- the capture
+
+-- each record has its number
+pub made_few : (n : ℕ) → n ≤ 100000 → length (capture (made_capture n)).list ≡ n
+made_few n le =
+    sym (length-map (capture (made_capture n)).list (λ (placed : Placed). placed.stamp))
+    ∙ ap length (whole n le).stamps
+    ∙ length-map-range_with_len made_stamp 1 n
+
+-- a filter that took these records of these bytes, and all events that were left
+abbrev HasTaken : Script → Reporting → List ℕ → List Placed → Type 0
+HasTaken script f bytes records = (frames lines : List (List ℕ)) × InCourse (finished (fold after_arrival (begun script) (arrivals_of bytes records))) f frames lines
+
+-- all of the capture's records and all events of the script were taken
+pub ended_made : (n : ℕ) (bytes : List ℕ) (records : List Placed) (f g h : Reporting) → bytes ≡ made_capture n → records ≡ (capture bytes).list → HasBegunMade n f
+    → ((c : Course) (frames : List (List ℕ)) → Adds (InCourse c f frames) (InCourse (fold after_arrival c (arrivals_of bytes records)) g (frames ++ map (frame_of bytes) records)) None None)
+    → ((c : Course) (frames : List (List ℕ)) → Adds (InCourse c g frames) (InCourse (finished c) h frames) None None)
+    → HasEndedMade n h
+unfolding course
+ended_made n bytes records f g h is found b take rest =
+    let taken = take (begun b.0) [] b.2 b.3 in
+    let done = rest (fold after_arrival (begun b.0) (arrivals_of bytes records)) (map (frame_of bytes) records) (b.2 ++ taken.0) taken.2 in
+    (b.0, b.1, subst (λ (t : List ℕ). HasTaken b.0 h t (capture t).list) is (subst (HasTaken b.0 h bytes) found (map (frame_of bytes) records, (b.2 ++ taken.0) ++ done.0, done.2)))
+
+-- ---- the lines
+
+module _ (n : ℕ) (f : Reporting) (old new : Option (List ℕ)) (is : HasEndedMade n f) where
+  abbrev Lines : List (List ℕ)
+  Lines = let bytes = made_capture n in summary_lines is.0 (arrivals_of bytes (capture bytes).list)
+
+  are : IsSummary n Lines
+  are = (is.0, is.1, refl)
+
+  pub totals_done : ((c : Course) (frames lines : List (List ℕ)) → InCourse c f frames lines → AppendsAll old new (entry_lines [] [] (totals c.told)))
+      → Meets (Some (Ok tt)) (IsMade Summary n) old new (Ok tt)
+  unfolding Meets
+  totals_done done = inl (refl, Lines, are, done _ is.2.0 is.2.1 is.2.2)
+
+  pub totals_fail : (result : Result (Unit {0}) ReportFault) (fault : ReportFault) → result ≡ Err fault
+      → ((c : Course) (frames lines : List (List ℕ)) → InCourse c f frames lines → result ≡ Err reports.Write → AppendsFront old new (concat (entry_lines [] [] (totals c.told))))
+      → ((result ≡ Err reports.Write → ⊥) → Keeps old new) → ((need limit : ℕ) → result ≡ Err (reports.TooLarge need limit) → ⊥)
+      → Meets (Some (Ok tt)) (IsMade Summary n) old new (Err (fault_of fault))
+  unfolding Meets
+  totals_fail result (reports.TooLarge need limit) e front keeps none = absurd (none need limit e)
+  totals_fail result reports.OutOfMemory e front keeps none = inr (tt, inl (keeps (λ w. absurd cc)))
+  totals_fail result reports.Write e front keeps none = inr (omega arith, inr (Lines, are, front _ is.2.0 is.2.1 is.2.2 e))
