@@ -1,11 +1,16 @@
 #!/usr/bin/env bash
-# Runs each command that the README and docs/ print with its output, and compares. Wants Python 3.
+# Runs each command that the README and docs/ print with its output, and compares. Wants Python 3. `./try` stands for the
+# proved program where it is newer than all sources, and compiles one else.
 set -eu
 top=$(cd "$(dirname "$0")/.." && pwd)
 folder=$(mktemp -d)
 trap 'rm -rf "$folder"' EXIT
 ln -s "$top/examples" "$folder/examples"
-printf '#!/bin/sh\nexec "%s/try" "$@"\n' "$top" > "$folder/try"
+program=$top/crates/apf_run/out/apf_run
+if [ ! -x "$program" ] || [ -n "$(find "$top/crates" -name '*.rt' -newer "$program" -print -quit)" ]; then
+  program=$top/try
+fi
+printf '#!/bin/sh\nexec "%s" "$@"\n' "$program" > "$folder/try"
 chmod +x "$folder/try"
 python3 - "$top" "$folder" <<'PYTHON'
 import glob, os, re, subprocess, sys
