@@ -1,6 +1,6 @@
 //! Reports of `filter`, row by row. In a wanted line S, C and T stand for a size, a code and a number of steps.
 
-use crate::tests::{calls, list_of, status, words_of};
+use crate::running::{calls, list_of, status, words_of};
 use apf_base::{List, MemShelf, MemSink};
 use pcap_files::{Kind, Stamp, head, put};
 use std::alloc::Global;

@@ -1,6 +1,7 @@
 //! Runs of `filter` on made files, and the greatest made summary.
 
-use crate::tests::{SUMMARY_6, calls, list_of, printed, status, words_of};
+use crate::running::{calls, list_of, printed, status, words_of};
+use crate::tests::SUMMARY_6;
 use apf_base::{List, MemShelf, MemSink};
 use std::test::Fail;
 

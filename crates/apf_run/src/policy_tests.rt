@@ -2,7 +2,7 @@ ghost use Rattle.std.specs.Prelude.{◌≤◌, IfOk};
 ghost use Rattle.apf_generate.specs.Sizes.{need_of};
 ghost use Rattle.size_fit.specs.Sizes.{limit_of};
 
-use crate::tests::printed_program;
+use crate::running::printed_program;
 use apf_base::List;
 use apf_generate::generate;
 use apf_interp::{Verdict, interpret};
