@@ -51,14 +51,15 @@ const KEEPALIVE: &str = "at 1001 keepalive add 0 10.0.0.2:40000 10.0.0.9:443 100
 const EVENTS: &str =
     "at 1000 address 10.0.0.1/33\nat 1000 keepalive remove 3\nat 1000 keepalive add 8 10.0.0.2:40000 10.0.0.9:443 1000 2000\nat 1000 keepalive add 0 10.0.0.2:40000 10.0.0.9:443 1000 2000\nat 1000 keepalive add 0 10.0.0.2:40001 10.0.0.9:443 1000 2000\nat 1000 doze off\n";
 
-/// A run of `filter`: its script and events, its frames with their seconds, how many bytes the capture lacks at its end,
-/// the calls that fail (0 for none), and what is wanted. The wanted lines stand in the report in this order, and it has
-/// so many lines.
+/// A run of `filter`: its script, its events and the bytes of a comment behind them, its frames with their seconds, how
+/// many bytes the capture lacks at its end, the calls that fail (0 for none), and what is wanted. The wanted lines stand in
+/// the report in this order, and it has so many lines.
 #[derive(Clone, Copy)]
 struct Row {
     name: &'static str,
     script: &'static str,
     events: &'static str,
+    comment: usize,
     frames: &'static [(u32, Sent)],
     cut: usize,
     fetch: u64,
@@ -74,6 +75,7 @@ const EMPTY: Row = Row {
     name: "empty capture",
     script: SCRIPT,
     events: "",
+    comment: 0,
     frames: &[],
     cut: 0,
     fetch: 0,
@@ -103,7 +105,7 @@ const FIRST_LINE: Row = Row {
     ..EMPTY
 };
 
-const ROWS: [Row; 14] = [
+const ROWS: [Row; 16] = [
     EMPTY,
     Row {
         name: "a realistic advertisement",
@@ -234,6 +236,18 @@ const ROWS: [Row; 14] = [
         ..REFUSED
     },
     Row {
+        name: "the longest script",
+        comment: 1_048_502,
+        ..EMPTY
+    },
+    Row {
+        name: "a script that is too long",
+        comment: 1_048_503,
+        status: 68,
+        err: "apf_run: too long: script over 1048576\n",
+        ..REFUSED
+    },
+    Row {
         name: "a cut capture",
         frames: &[
             (1000, Sent::Zeros),
@@ -349,14 +363,17 @@ fn check_lines(rt: &impl Abort, row: &Row, report: &[u8]) {
 }
 
 fn shelf_of(rt: &impl Abort, alloc: Global, row: &Row) -> Result<MemShelf, Fail> {
-    let script = format!(in alloc; "{}{}", row.script, row.events)?;
+    let comment = vec![in alloc; b'#'; row.comment]?;
+    let mut script = list_of(alloc, row.script.as_bytes())?;
+    script.extend(row.events.as_bytes())?;
+    script.extend(&comment)?;
     let mut shelf = MemShelf::new(
         alloc,
         4096,
         calls(alloc, row.fetch)?,
         calls(alloc, row.read)?,
     );
-    shelf.add("s", list_of(alloc, script.as_bytes())?)?;
+    shelf.add("s", script)?;
     shelf.add("c", capture_of(rt, alloc, row)?)?;
     Ok(shelf)
 }
