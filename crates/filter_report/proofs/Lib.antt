@@ -1,4 +1,5 @@
 pub mod Adding
+pub mod CodesTold
 pub mod Leading
 pub mod Learning
 pub mod Reporting

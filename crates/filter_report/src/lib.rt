@@ -8,6 +8,7 @@ mod events;
 mod fault;
 mod filtering;
 mod frames;
+mod laws;
 mod lines;
 mod sharing;
 #[cfg(test)]
@@ -17,4 +18,5 @@ mod writing;
 
 pub use fault::ReportFault;
 pub use filtering::Filtering;
+pub use laws::{gen_lines_have_one_code, reports_have_one_list_of_codes, reports_tell_their_codes};
 pub use sharing::types_are_shared;
