@@ -1,32 +1,26 @@
 -- The parts of `filter`: what each leaves, and how it meets what is defined.
-use Rattle.std.proofs.Common.{◌≡◌, ◌≤◌, ◌<◌, ◌+◌, ℕ, List, [], ◌∷◌, ◌++◌, length, map, fold, Bool, true, false, cond, ltb, Option, None, Some, Result, Ok, Err, IfSome, refl, sym, ap, subst, ◌∙◌, arith, inl, inr, append-nil}
+use Rattle.std.proofs.Common.{◌≡◌, ◌≤◌, ◌<◌, ℕ, List, [], ◌++◌, length, map, fold, Bool, true, false, cond, ltb, Option, None, Some, Result, Ok, Err, IfSome, refl, sym, subst, arith, append-nil}
 use Rattle.std.specs.Prelude.{⊤}
-use Rattle.std.specs.Io.KnownBytes.{Keeps}
 use Rattle.std.proofs.KnownBytes.{Appends-nil}
 use Rattle.std.proofs.lemmas.Bool.{le-ltb, lt-ltb}
 use Rattle.pcap_files.specs.Capture.{capture, frame_of}
 use Rattle.pcap_files.specs.declared.fault.PcapError.{PcapError}
 use Rattle.apf_generate.specs.Ranges.{AreBytes}
-use Rattle.policy_state.specs.States.{start}
 use Rattle.policy_state.specs.declared.basis.Script.{Script}
-use Rattle.size_fit.specs.Sizes.{base, limit_of}
-use Rattle.filter_core.specs.Replay.{Course, begun, course, after_arrival, replay}
+use Rattle.filter_core.specs.Replay.{Course, begun, course, after_arrival}
 use Rattle.filter_report.proofs.Adding.{adds_adds, adds_breaks}
 use Rattle.filter_report.proofs.Leading.{leads, leads_report, along_tells}
 use Rattle.filter_report.specs.Along.{Reporting, InCourse}
-use Rattle.filter_report.specs.Arrivals.{arrivals_of, frames_of}
+use Rattle.filter_report.specs.Arrivals.{arrivals_of}
 use Rattle.filter_report.specs.Lines.{Adds, BreaksOff}
 use Rattle.filter_report.specs.Report.{Leads, Tells, ended}
 use Rattle.filter_report.specs.declared.fault.ReportFault.{ReportFault}
 use Rattle.filter_report.specs.declared.fault.ReportFault.TheVariants as reports
-use Rattle.script_text.specs.ScriptLines.{contents_of}
-use Rattle.script_text.specs.ScriptReading.{script_answer}
-use Rattle.apf_run.proofs.Going.{goes_behind, goes_meets, goes_done, goes_no_further, goes_broken, meets_as}
-use Rattle.apf_run.proofs.Replaying.{bytes_are, frames_are, arrivals_have_bytes, replay_codes, story_lines, begun_lines, replay_lines, replay_late, late_end}
+use Rattle.apf_run.proofs.Going.{goes_done, goes_no_further, goes_broken}
+use Rattle.apf_run.proofs.Replaying.{frames_are, arrivals_have_bytes, replay_codes, story_lines, begun_lines, replay_lines, replay_late, late_end}
 use Rattle.apf_run.specs.CaptureEnds.{faultless}
-use Rattle.apf_run.specs.Ends.{Meets, GoesOn, ComesFirst, FileFails, LeavesFront, end_place, place}
-use Rattle.apf_run.specs.FilterEnds.{HasBegun, IsReplayed, IsFiltered, IsReadAs, are_bytes, fault_of, replay_end, contents_end, answer_end, filter_end}
-use Rattle.apf_run.specs.Lines.{AppendsAll}
+use Rattle.apf_run.specs.Ends.{GoesOn, ComesFirst, FileFails, LeavesFront, end_place}
+use Rattle.apf_run.specs.FilterEnds.{HasBegun, IsReplayed, are_bytes, fault_of, replay_end}
 use Rattle.apf_run.specs.declared.fault.Input.TheVariants.{Replayed}
 use Rattle.apf_run.specs.declared.fault.Fault.{Fault}
 use Rattle.apf_run.specs.declared.fault.Fault.TheVariants.{Usage, BadCapture, BadScript, BadText, Twice, Unknown, Backward, TooLong, CodeTooLong, TooLarge, OutOfMemory, Read, Write, Open}

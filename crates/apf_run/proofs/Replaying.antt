@@ -1,7 +1,7 @@
 -- The lines of a replay that broke off can be completed to those that are defined.
-use Rattle.std.proofs.Common.{◌≡◌, ◌≤◌, ◌<◌, ◌+◌, ℕ, List, [], ◌∷◌, ◌++◌, length, length-drop, drop, map, All, Bool, true, false, cond, ltb, nat_lt, ◌&&◌, Option, None, Some, Result, Ok, Err, IfSome, refl, sym, ap, subst, ◌∙◌, arith, suc, zero, inl, inr, append-nil}
+use Rattle.std.proofs.Common.{◌≡◌, ◌≤◌, ◌<◌, ◌+◌, ℕ, List, [], ◌∷◌, ◌++◌, length, length-drop, drop, map, All, Bool, true, false, cond, ltb, ◌&&◌, Option, None, Some, Result, Ok, Err, IfSome, refl, ap, subst, ◌∙◌, arith, suc, zero}
 use Rattle.std.specs.Prelude.{slice_index, ⊤}
-use Rattle.std.proofs.lemmas.Bool.{le-ltb, lt-ltb, ltb-true, ltb-false}
+use Rattle.std.proofs.lemmas.Bool.{ltb-true}
 use Rattle.std.proofs.lemmas.List.Elements.{All-head, All-tail, All-nil, All-cons}
 use Rattle.apf_coding.proofs.Numbers.{AreBytes-take, AreBytes-drop}
 use Rattle.apf_generate.proofs.Existing.{program_exists}
@@ -17,7 +17,7 @@ use Rattle.filter_core.proofs.Growing.{Grows, Grown, installs-append, arrivals_g
 use Rattle.filter_core.proofs.SoundBases.{HasSoundBasis, HasRoom, IsFitting, begun_fits, bases_sound, bases_room, room_kept}
 use Rattle.filter_core.specs.Installs.{Installed}
 use Rattle.filter_core.specs.Replay.{Arrival, Entry, begun, course, installs_of, replay, story}
-use Rattle.filter_report.proofs.Leading.{leads, leads_grown, leads_told, leads_story, leads_report}
+use Rattle.filter_report.proofs.Leading.{leads_grown, leads_told, leads_story, leads_report}
 use Rattle.filter_report.specs.Arrivals.{arrival_of, arrivals_of, frames_of}
 use Rattle.filter_report.specs.Report.{AllHaveCodes, Leads}
 use Rattle.apf_run.specs.CaptureEnds.{faultless}

@@ -1,5 +1,5 @@
 -- How `filter` is to end, where the files that it reads are told, and what it writes.
-use Rattle.std.specs.Prelude.{◌≡◌, ℕ, List, [], ◌∷◌, ◌++◌, length, nat_lt, Bool, true, false, ◌&&◌, ◌≤◌, ◌⊎◌, if◌then◌else◌, Option, None, Some, Result, Ok, Err, IfSome}
+use Rattle.std.specs.Prelude.{◌≡◌, ℕ, List, [], ◌∷◌, length, nat_lt, Bool, true, ◌&&◌, ◌≤◌, if◌then◌else◌, Option, None, Some, Result, Ok, Err}
 use Rattle.policy_state.specs.declared.basis.Script.{Script}
 use Rattle.policy_state.specs.States.{start}
 use Rattle.apf_generate.specs.Ranges.{IsScript}
