@@ -19,6 +19,7 @@ fn read_fully<S: Source>(
 fn lists_grow(rt: HostRuntime) -> Result<(), Fail> {
     let alloc = rt.alloc();
     let mut list = List::of(alloc, [1u8, 2])?;
+    list.reserve(4)?;
     list.push(3)?;
     list.extend(&[4, 5])?;
     list.append(List::of(alloc, [6])?)?;

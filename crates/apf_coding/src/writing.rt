@@ -18,7 +18,7 @@ fn append_number(out: &mut List<u8>, width: u8, n: u32) -> Result<(), OutOfMemor
 {
     match width {
         0 => Ok(()),
-        1 => out.extend(&[n as u8]),
+        1 => out.push(n as u8),
         2 => out.extend(&(n as u16).to_be_bytes()),
         _ => out.extend(&n.to_be_bytes()),
     }
