@@ -1,6 +1,6 @@
 //! `filter`: the report of a script over a capture.
 
-ghost use Rattle.std.specs.Prelude.{◌≡◌, ◌≢◌, ◌≤◌, [], ℕ, List as Items, Option as Perhaps, length, IfSome, IfOk, IfErr, OnOk, OnErr, Ok, Err, Some};
+ghost use Rattle.std.specs.Prelude.{◌≡◌, ◌≢◌, ◌≤◌, ◌<◌, ◌^◌, [], ℕ, List as Items, Option as Perhaps, length, IfSome, IfOk, IfErr, OnOk, OnErr, Ok, Err, Some};
 ghost use Rattle.std.specs.Io.KnownBytes.{Keeps, IsAtEnd};
 ghost use Rattle.apf_base.specs.Causes.{Rose};
 ghost use Rattle.apf_generate.specs.Ranges.{IsScript};
@@ -33,6 +33,7 @@ fn script_of(alloc: Global, text: &[u8]) -> Result<Script, Fault>
     requires { length text.now ≤ 1048576 }
     ensures ok { IfOk result (IsReadAs text.now) }
     ensures sound { IfOk result IsScript }
+    ensures few_events { IfOk result (λ script. length script.events < 2 ^ 32) }
     ensures no_lines { (text capture : Perhaps (Items ℕ)) → IfErr result (λ fault. IsFiltered text capture (Err fault) []) }
     ensures err { (capture : Perhaps (Items ℕ)) → IfErr result (Stops (answer_end (script_answer text.now) capture)) }
     ensures no_write { result ≢ Err Fault.Write }
@@ -52,6 +53,7 @@ fn script_in<H: Shelf>(alloc: Global, name: &str, shelf: &mut H) -> Result<Scrip
     requires { H.may name.now }
     ensures ok { IfOk result (λ script. IfSome (H.file shelf.old name.now) (λ text. IsReadAs text script)) }
     ensures sound { IfOk result IsScript }
+    ensures few_events { IfOk result (λ script. length script.events < 2 ^ 32) }
     ensures no_lines { (text capture : Perhaps (Items ℕ)) → IfErr result (λ fault. IsFiltered text capture (Err fault) []) }
     ensures err { (capture : Perhaps (Items ℕ)) → IfErr result (Stops (filter_end (H.file shelf.old name.now) capture)) }
     ensures no_write { result ≢ Err Fault.Write }
@@ -131,6 +133,7 @@ fn replay<H: Shelf, O: Sink>(
 ) -> Result<(), Fault>
     requires may { H.may name.now }
     requires sound { IsScript script }
+    requires few_events { length script.events < 2 ^ 32 }
     ensures defined { let capture = H.file shelf.old name.now in
         Meets (contents_end (contents_of script) capture) (IsReplayed script capture) (O.held out.old) (O.held out.new) result }
     ensures quiet { OnErr result (result ≢ Err Fault.Write → result ≢ Err Fault.OutOfMemory → ((fault : PcapError) → result ≢ Err (Fault.BadCapture fault))

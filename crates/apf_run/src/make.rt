@@ -1,6 +1,6 @@
 //! `make`: input that is made by a rule, and what the filter does with it.
 
-ghost use Rattle.std.specs.Prelude.{◌≡◌, ◌≢◌, ◌≤◌, ◌⊎◌, ◌∷◌, [], ℕ, List as Items, length, IfOk, IfErr, OnOk, OnErr, Ok, Err, Some, None};
+ghost use Rattle.std.specs.Prelude.{◌≡◌, ◌≢◌, ◌≤◌, ◌<◌, ◌^◌, ◌⊎◌, ◌∷◌, [], ℕ, List as Items, length, IfOk, IfErr, OnOk, OnErr, Ok, Err, Some, None};
 ghost use Rattle.std.specs.Io.KnownBytes.{Keeps};
 ghost use Rattle.apf_base.specs.Causes.{Rose};
 ghost use Rattle.apf_base.specs.Streams.{AppendsFront};
@@ -44,7 +44,8 @@ impl Sink for Nowhere {
 // The made script, as it is read.
 fn read_made(alloc: Global, n: u32) -> Result<Script, OutOfMemory>
     requires { n ≤ 100000 }
-    ensures { IfOk result (λ script. contents_of script ≡ made_contents n) }
+    ensures script { IfOk result (λ script. contents_of script ≡ made_contents n) }
+    ensures few_events { IfOk result (λ script. length script.events < 2 ^ 32) }
 {
     let text = made_script(alloc, n)?;
     match read_script(alloc, text.as_slice()) {

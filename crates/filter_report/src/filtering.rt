@@ -23,13 +23,10 @@ use crate::totals::last_lines;
 use crate::writing::write_lines;
 use apf_base::{List, Sink};
 use filter_core::{Core, StartError};
-use pcap_files::Placed;
+use pcap_files::{Placed, frame_at};
 use policy_state::{Config, Script, Timed};
 use std::alloc::Global;
 use std::marker::Model;
-
-/// The most events of a script.
-const MOST_EVENTS: usize = 4294967295;
 
 /// A filter under a script that writes its report line by line: its core, the events of the script and how many of them
 /// were taken, and how many frames were taken and how many of them passed.
@@ -69,17 +66,6 @@ fn start_core(alloc: Global, config: Config, now: u32) -> Result<Core, ReportFau
     }
 }
 
-/// The frame of a record in the bytes of its capture.
-fn frame_at<'a>(bytes: &'a [u8], placed: &Placed) -> &'a [u8]
-    requires { IsWithin (length bytes.now) placed.now }
-    ensures frame { result.now ≡ frame_of bytes.now placed.now }
-    ensures limit { length result.now ≤ 262144 }
-{
-    let (_, rest) = bytes.split_at(placed.at as usize + 16);
-    let (frame, _) = rest.split_at(placed.len as usize);
-    frame
-}
-
 /// One more where this is so.
 fn with_one(one: bool, count: u64) -> u64
     requires { count < 2 ^ 63 }
@@ -92,13 +78,14 @@ fn with_one(one: bool, count: u64) -> u64
 impl Filtering {
     /// Makes the first install of a script, and writes its line.
     ///
-    /// `TooLarge` comes exactly where the base of the first state is more than the limit. `OutOfMemory` comes where memory runs
-    /// out, and for a script of more than 4294967295 events. Nothing is written in these cases.
+    /// The script has fewer than 2^32 events. `TooLarge` comes exactly where the base of the first state is more than the
+    /// limit, and `OutOfMemory` where memory runs out. Nothing is written in these cases.
     pub fn begin<O: Sink>(
         alloc: Global,
         script: Script,
         out: &mut O,
     ) -> Result<Filtering, ReportFault>
+        requires few_events { length script.events < 2 ^ 32 }
         ensures ok { IfOk result (λ f. Adds (λ lines. lines ≡ []) (InCourse (begun script) f []) (O.held out.old) (O.held out.new)) }
         ensures front { result ≡ Err ReportFault.Write → BreaksOff ReportFault.Write (λ lines. lines ≡ []) (Leads (begun script).told []) (O.held out.old) (O.held out.new) }
         ensures none { IfOk result (λ f. f.frames ≡ 0) }
@@ -111,10 +98,6 @@ impl Filtering {
         ensures faults { O.faults out.old ≤ O.faults out.new }
     {
         let core = start_core(alloc, script.config, script.start)?;
-        // No script has so many events, since its text has at most a million bytes.
-        if script.events.len() > MOST_EVENTS {
-            return Err(ReportFault::OutOfMemory);
-        }
         let line = gen_line(alloc, core.install())?;
         write_lines(&[line], out)?;
         Ok(Filtering {

@@ -53,7 +53,9 @@ fn frames_are_reported(rt: HostRuntime) -> Result<(), Fail> {
     let mut out = MemSink::new(alloc, 100, 8192, List::new(alloc))?;
     let found = records(alloc, &CAPTURE)?;
     assert!(rt; found.list.len() < 100);
-    let mut filtering = Filtering::begin(alloc, script(alloc), &mut out)?;
+    let script = script(alloc);
+    assert!(rt; script.events.len() < 100);
+    let mut filtering = Filtering::begin(alloc, script, &mut out)?;
     filtering.take_all(alloc, &CAPTURE, found.list.as_slice(), &mut out)?;
     filtering.finish(alloc, &mut out)?;
     let text = str::from_utf8(out.bytes())?;

@@ -12,3 +12,4 @@ pub mod Grammar
 pub mod LeftWords
 pub mod Pieces
 pub mod Counted
+pub mod EventCounts

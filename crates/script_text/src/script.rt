@@ -68,6 +68,8 @@ pub fn read_script(alloc: Global, text: &[u8]) -> Result<Script, ScriptError>
     // The fault that is named is the first.
     ensures named { (line : ℕ) (kind : KindValue) → result ≡ Err (ScriptError.Bad line kind) → Refuses text.now line kind }
     ensures refused { (line : ℕ) (kind : KindValue) → Refuses text.now line kind → (result ≡ Err (ScriptError.Bad line kind)) ⊎ (result ≡ Err ScriptError.OutOfMemory) }
+    // Each event has a line.
+    ensures few { IfOk result (λ script. length script.events ≤ length text.now) }
     // By a function that computes.
     ensures exact { Tells contents_of result (script_answer text.now) }
 {

@@ -1,4 +1,5 @@
 -- The function's answer is the grammar's.
+use Rattle.script_text.proofs.EventCounts.{few_found}
 use Rattle.script_text.proofs.Faults.{told_found, told_only, told_named, told_refused}
 use Rattle.script_text.proofs.script.read_script.Goals as goal
 
@@ -13,3 +14,6 @@ returns-clause-named c = told_named c.args.text.now c.read_lines.result c.read_l
 
 pub returns-clause-refused : goal.returns-clause-refused
 returns-clause-refused c = told_refused c.args.text.now c.read_lines.result c.read_lines.ensures
+
+pub returns-clause-few : goal.returns-clause-few
+returns-clause-few c = few_found c.args.text.now c.read_lines.result (told_found c.args.text.now c.read_lines.result c.read_lines.ensures)

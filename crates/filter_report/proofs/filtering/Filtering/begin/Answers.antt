@@ -39,9 +39,6 @@ invariant_of-result g c = (omega arith, omega arith, omega arith, omega (arith, 
 pub returns-clause-fits : goal.returns-clause-fits
 returns-clause-fits g c = λ lt. let x = c.in_ok-core.ensures.fits lt in absurd cc
 
-pub returns-then-len-gt-MOST_EVENTS-clause-fits : goal.returns-then-len-gt-MOST_EVENTS-clause-fits
-returns-then-len-gt-MOST_EVENTS-clause-fits g c = λ lt. let x = c.in_ok-core.ensures.fits lt in absurd cc
-
 pub returns-in_err-line-clause-fits : goal.returns-in_err-line-clause-fits
 returns-in_err-line-clause-fits g c = λ lt. let x = c.in_ok-core.ensures.fits lt in absurd cc
 
