@@ -1,11 +1,8 @@
 -- Where labels stand.
 use Rattle.std.proofs.Common.{◌≡◌, ℕ, suc, ◌+◌, ◌<◌, Bool, true, false, cond, eqb, eq-eqb, List, [], ◌∷◌, ◌++◌, length, Option, Some, None, refl, sym, ap, subst, ◌∙◌, arith}
-use Rattle.std.specs.Prelude.{◌||◌}
+use Rattle.std.specs.Prelude.{◌||◌, ◌≢◌}
 use Rattle.std.specs.Option.{is_some}
-use Rattle.std.specs.Ordering.{nat_cmp}
-use Rattle.std.specs.BTreeMap as tree
-use Rattle.std.proofs.lemmas.Bool.Decides.{nat_tests}
-use Rattle.std.proofs.lemmas.Bool.{eqb-true, false≢true}
+use Rattle.std.proofs.lemmas.Bool.{eqb-true, eqb-false, false≢true}
 use Rattle.apf_asm.specs.declared.item.Item.{Item}
 use Rattle.apf_asm.specs.declared.item.Item.TheVariants as items
 use Rattle.apf_asm.specs.Items.{marks}
@@ -93,11 +90,11 @@ stands_as l xs b e = go (stands l xs) refl
     go true h = h ∙ sym (e ∙ rw h refl)
     go false h = h ∙ sym (e ∙ rw h refl)
 
--- ---- a map of the labels so far, f, that holds one item more
+-- ---- what is found of the labels so far, f, and with one item more, g
 
-pub noted_old : (f : ℕ → Option ℕ) (xs : List Item) (label : ℕ) → ((k : ℕ) → f k ≡ label_found k xs) → true ≡ is_some (f label) → (k : ℕ) → f k ≡ label_found k (xs ++ items.Label label ∷ [])
+pub noted_old : (f : ℕ → Option ℕ) (xs : List Item) (label : ℕ) → ((k : ℕ) → f k ≡ label_found k xs) → is_some (f label) ≡ true → (k : ℕ) → f k ≡ label_found k (xs ++ items.Label label ∷ [])
 noted_old f xs label all there k =
-    all k ∙ sym (found_same k xs (items.Label label) (λ e. subst (λ (l : ℕ). stands l xs ≡ true) (eqb-true label k e) (stands_as label xs true (there ∙ ap is_some (all label)))))
+    all k ∙ sym (found_same k xs (items.Label label) (λ e. subst (λ (l : ℕ). stands l xs ≡ true) (eqb-true label k e) (stands_as label xs true (sym there ∙ ap is_some (all label)))))
 
 pub noted_other : (f : ℕ → Option ℕ) (xs : List Item) (x : Item) → ((k : ℕ) → f k ≡ label_found k xs) → ((l : ℕ) → x ≡ items.Label l → ⊥) → (k : ℕ) → f k ≡ label_found k (xs ++ x ∷ [])
 noted_other f xs (items.Label l) all h k = absurd (h l refl)
@@ -105,16 +102,12 @@ noted_other f xs (items.Fixed x) all h k = all k ∙ sym (found_same k xs (items
 noted_other f xs (items.Jump x) all h k = all k ∙ sym (found_same k xs (items.Jump x) (λ e. absurd (false≢true e)))
 noted_other f xs (items.Byte x) all h k = all k ∙ sym (found_same k xs (items.Byte x) (λ e. absurd (false≢true e)))
 
-new_cases : (f g : ℕ → Option ℕ) (xs : List Item) (label : ℕ) → ((k : ℕ) → f k ≡ label_found k xs) → stands label xs ≡ false → g label ≡ Some (length xs) → ((k : ℕ) → eqb label k ≡ false → g k ≡ f k) → (k : ℕ) (b : Bool) → eqb label k ≡ b → g k ≡ label_found k (xs ++ items.Label label ∷ [])
+new_cases : (f g : ℕ → Option ℕ) (xs : List Item) (label : ℕ) → ((k : ℕ) → f k ≡ label_found k xs) → stands label xs ≡ false → g label ≡ Some (length xs) → ((k : ℕ) → k ≢ label → g k ≡ f k) → (k : ℕ) (b : Bool) → eqb label k ≡ b → g k ≡ label_found k (xs ++ items.Label label ∷ [])
 new_cases f g xs label all no_one here apart k true e =
     let same : label ≡ k = eqb-true label k e in
     subst (λ (l : ℕ). g l ≡ label_found l (xs ++ items.Label label ∷ [])) same (here ∙ sym (found_new label xs (items.Label label) (eq-eqb label label refl) no_one))
-new_cases f g xs label all no_one here apart k false e = apart k e ∙ all k ∙ sym (found_same k xs (items.Label label) (λ h. absurd (false≢true (sym e ∙ h))))
+new_cases f g xs label all no_one here apart k false e = apart k (λ same. eqb-false label k e (sym same)) ∙ all k ∙ sym (found_same k xs (items.Label label) (λ h. absurd (false≢true (sym e ∙ h))))
 
-pub noted_new : (f g : ℕ → Option ℕ) (xs : List Item) (label number : ℕ) → ((k : ℕ) → f k ≡ label_found k xs) → false ≡ is_some (f label) → number ≡ length xs → g label ≡ Some number → ((k : ℕ) → eqb label k ≡ false → g k ≡ f k) → (k : ℕ) → g k ≡ label_found k (xs ++ items.Label label ∷ [])
+pub noted_new : (f g : ℕ → Option ℕ) (xs : List Item) (label number : ℕ) → ((k : ℕ) → f k ≡ label_found k xs) → is_some (f label) ≡ false → number ≡ length xs → g label ≡ Some number → ((k : ℕ) → k ≢ label → g k ≡ f k) → (k : ℕ) → g k ≡ label_found k (xs ++ items.Label label ∷ [])
 noted_new f g xs label number all absent e here apart k =
-    new_cases f g xs label all (stands_as label xs false (absent ∙ ap is_some (all label))) (here ∙ ap (λ (n : ℕ). Some n) e) apart k (eqb label k) refl
-
--- a key that is another number
-pub other_key : (a b : ℕ) → eqb a b ≡ false → tree.is_at (nat_cmp a) b ≡ false
-other_key a b e = grind (arith, nat_tests)
+    new_cases f g xs label all (stands_as label xs false (sym absent ∙ ap is_some (all label))) (here ∙ ap (λ (n : ℕ). Some n) e) apart k (eqb label k) refl

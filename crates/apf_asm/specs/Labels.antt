@@ -1,5 +1,7 @@
 -- Where labels stand, and to which items jumps go, by the numbers of items.
-use Rattle.std.specs.Prelude.{ℕ, suc, ◌+◌, nat_lt, if◌then◌else◌, List, [], ◌∷◌, length, Option, Some, None, Result, Ok, Err}
+use Rattle.std.specs.Prelude.{ℕ, suc, ◌+◌, nat_lt, if◌then◌else◌, List, [], ◌∷◌, length, slice_get, Option, Some, None, Result, Ok, Err}
+use Rattle.std.specs.Ordering.{nat_cmp}
+use Rattle.std.specs.BTreeMap as tree
 use Rattle.apf_asm.specs.declared.item.Item.{Item}
 use Rattle.apf_asm.specs.declared.item.Item.TheVariants as items
 use Rattle.apf_asm.specs.declared.item.Target.{Target}
@@ -16,6 +18,15 @@ label_at l (item ∷ rest) = if marks l item then 0 else suc (label_at l rest)
 
 abbrev pub label_found : ℕ → List Item → Option ℕ
 label_found l items = if stands l items then Some (label_at l items) else None
+
+-- ---- what is found of a label in an array of the labels that are near, and a tree of those beyond it
+
+abbrev pub found_in : Option (Option ℕ) → Option ℕ → Option ℕ
+found_in (Some near) far = near
+found_in None far = far
+
+abbrev pub found : List (Option ℕ) → tree.BTreeMap ℕ ℕ → ℕ → Option ℕ
+found near far label = found_in (slice_get near label) (tree.get nat_cmp far label)
 
 -- ---- the item to which an item goes
 

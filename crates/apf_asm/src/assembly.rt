@@ -29,7 +29,13 @@ fn assemble_items(alloc: Global, items: &[Item]) -> Result<Code, AsmError>
             bytes: spacing.bytes,
         });
     }
-    let code = emit(alloc, items, &spacing.widths, &spacing.offsets)?;
+    let code = emit(
+        alloc,
+        items,
+        &spacing.widths,
+        &spacing.offsets,
+        spacing.bytes as usize,
+    )?;
     Ok(code)
 }
 

@@ -82,27 +82,42 @@ fn append(
     Ok(())
 }
 
-/// The code of items with the widths and offsets of their layout.
-pub(crate) fn emit(
-    alloc: Global,
-    items: &[Item],
-    widths: &[u8],
-    offsets: &[u64],
-) -> Result<Code, OutOfMemory>
-    requires forms { All IsItemForm items.now }
-    requires few { length items.now ≤ 1048576 }
-    requires widths { widths.now ≡ item_widths items.now }
-    requires offsets { offsets.now ≡ item_offsets items.now }
-    requires short { code_length items.now ≤ 65535 }
-    ensures bytes { IfOk result (λ code. code.bytes ≡ (layout items.now).bytes) }
-    ensures places { IfOk result (λ code. code.places ≡ (layout items.now).places) }
-    ensures widths { IfOk result (λ code. code.widths ≡ (layout items.now).widths) }
+/// No code yet, in lists with room for this many items and bytes.
+fn with_room(alloc: Global, items: usize, bytes: usize) -> Result<Code, OutOfMemory>
+    ensures bytes { IfOk result (λ code. code.bytes ≡ []) }
+    ensures places { IfOk result (λ code. code.places ≡ []) }
+    ensures widths { IfOk result (λ code. code.widths ≡ []) }
 {
     let mut code = Code {
         bytes: List::new(alloc),
         places: List::new(alloc),
         widths: List::new(alloc),
     };
+    code.bytes.reserve(bytes)?;
+    code.places.reserve(items)?;
+    code.widths.reserve(items)?;
+    Ok(code)
+}
+
+/// The code of items with the widths and offsets of their layout, and with this number of bytes.
+pub(crate) fn emit(
+    alloc: Global,
+    items: &[Item],
+    widths: &[u8],
+    offsets: &[u64],
+    bytes: usize,
+) -> Result<Code, OutOfMemory>
+    requires forms { All IsItemForm items.now }
+    requires few { length items.now ≤ 1048576 }
+    requires widths { widths.now ≡ item_widths items.now }
+    requires offsets { offsets.now ≡ item_offsets items.now }
+    requires length { bytes ≡ code_length items.now }
+    requires short { code_length items.now ≤ 65535 }
+    ensures bytes { IfOk result (λ code. code.bytes ≡ (layout items.now).bytes) }
+    ensures places { IfOk result (λ code. code.places ≡ (layout items.now).places) }
+    ensures widths { IfOk result (λ code. code.widths ≡ (layout items.now).widths) }
+{
+    let mut code = with_room(alloc, items.len(), bytes)?;
     for (number, item) in items.iter().enumerate() {
         append(
             alloc,

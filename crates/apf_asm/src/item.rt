@@ -87,6 +87,14 @@ impl From<OutOfMemory> for AsmError {
     }
 }
 
+impl From<AllocError> for AsmError {
+    ghost from_gives = { λ _ e. e ≡ OutOfMemory };
+
+    fn from(_: AllocError) -> Self {
+        AsmError::OutOfMemory
+    }
+}
+
 impl<T: Drop> From<AllocFailed<T>> for AsmError {
     ghost from_gives = { λ _ e. e ≡ OutOfMemory };
 
