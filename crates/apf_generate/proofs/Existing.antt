@@ -32,9 +32,9 @@ use Rattle.ip_rules.proofs.Ip4Emitted.{ip4_emitted}
 use Rattle.ip_rules.proofs.Ip6Emitted.{ip6_emitted}
 use Rattle.ip_rules.proofs.KeepalivesEmitted.{none_emitted, some_emitted}
 use Rattle.size_fit.specs.Sizes.{weight, limit_of}
-use Rattle.apf_generate.specs.Listing.{ip6_test_items, ip6_last_items, last_items, between_ends}
+use Rattle.apf_generate.specs.Listing.{opening_items, ip6_test_items, ip6_last_items, last_items, end_items}
 use Rattle.apf_generate.specs.Means.{Means}
-use Rattle.apf_generate.specs.Program.{AddsRecords, AddsIp6, HoldsQuestions, IsProgram}
+use Rattle.apf_generate.specs.Program.{AddsRecords, AddsIp6, IsProgram}
 use Rattle.apf_generate.specs.RaListing.{ra_items}
 use Rattle.apf_generate.specs.Sizes.{weights, need_of}
 use Rattle.apf_generate.proofs.Chosen.{records_few, no_records}
@@ -122,13 +122,13 @@ records_added chosen from old le h = record { rules = records_items from chosen;
 
 module _ (basis : Basis) (h : IsBasis basis) (fits : need_of basis ≤ limit_of basis.config) where
   abbrev link_list : List Item
-  link_list = link_items basis
+  link_list = opening_items ++ link_items basis
 
   abbrev arp_list : List Item
   arp_list = link_list ++ arp_items 2 basis.state.address
 
-  link_there : Emits (λ age frame. said_of (link basis frame)) (20 + 9 * length basis.config.deny) 2 2 [] link_list
-  link_there = link_emitted basis 2 [] link_list refl h.config.deny
+  link_there : Emits (λ age frame. said_of (link basis frame)) (20 + 9 * length basis.config.deny) 2 2 opening_items link_list
+  link_there = link_emitted basis 2 opening_items link_list refl h.config.deny
 
   arp_there : Emits (λ age frame. said_of (arp basis frame)) 112 2 4 link_list arp_list
   arp_there = arp_emitted basis 2 4 link_list arp_list refl (address_fits basis.state.address h.state.address) (lit≤ tt) refl
@@ -162,12 +162,12 @@ module _ (basis : Basis) (h : IsBasis basis) (fits : need_of basis ≤ limit_of 
 
   ip6_there : AddsIp6 basis over (over + 1 + 3 + length basis.chosen) ip4_list ip6_list
   ip6_there =
-      ip6_added basis over (over + 1 + 3) (over + 1 + 3 + length basis.chosen) basis.chosen ip4_list (ip6_test_items over) ip6_last_items test_list rules_list records_list (records_list ++ ip6_last_items) ip6_list
-      (omega arith) refl refl
+      ip6_added basis over (over + 1 + 3) (over + 1 + 3 + length basis.chosen) basis.chosen ip4_list test_list rules_list records_list (records_list ++ ip6_last_items) ip6_list
+      (omega arith) refl
       (ip6_emitted basis (over + 1) (over + 1 + 3) test_list rules_list refl (omega arith) refl)
       refl
       (records_added basis.chosen (over + 1 + 3) rules_list (omega arith) h.chosen)
-      refl refl refl
+      refl refl
 
   few : length basis.chosen ≤ 1000
   few = omega (arith, records_few basis.chosen, basis.config.most, fits)
@@ -175,16 +175,13 @@ module _ (basis : Basis) (h : IsBasis basis) (fits : need_of basis ≤ limit_of 
   abbrev question_list : List Item
   question_list = ip6_list ++ last_items
 
-  questions_hold : HoldsQuestions basis question_list
-  questions_hold =
-      joined basis 2 4 over (over + 1 + 3 + length basis.chosen) [] link_list arp_list ip4_list ip6_list question_list last_items
-      refl link_there arp_there ip4_there ip6_there refl refl few
-
   abbrev program_list : List Item
-  program_list = between_ends question_list
+  program_list = question_list ++ end_items
 
   is_program : IsProgram basis program_list
-  is_program = record { questions = question_list; holds = questions_hold; whole = refl }
+  is_program =
+      joined basis 2 4 over (over + 1 + 3 + length basis.chosen) opening_items link_list arp_list ip4_list ip6_list question_list program_list
+      refl link_there arp_there ip4_there ip6_there refl refl few
 
   abbrev code : List ℕ
   code = (layout program_list).bytes

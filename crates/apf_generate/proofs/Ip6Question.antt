@@ -111,20 +111,20 @@ module _ (basis : Basis) (over to most : ℕ) (xs : List Item) (low : 2 ≤ over
 regrouped : (f t g r u k : List Item) → ((((f ++ t) ++ g) ++ r) ++ u) ++ k ≡ f ++ (t ++ ((g ++ (r ++ u)) ++ k))
 regrouped f t g r u k = simp append_assoc
 
-chained : (f t g r u k t' u' x1 x2 x3 x4 x5 : List Item) → x1 ≡ f ++ t → x2 ≡ x1 ++ g → x3 ≡ x2 ++ r → x4 ≡ x3 ++ u → x5 ≡ x4 ++ k → t ≡ t' → u ≡ u' → x5 ≡ ((((f ++ t') ++ g) ++ r) ++ u') ++ k
-chained f t g r u k t' u' x1 x2 x3 x4 x5 p q s a b v w = cc
+chained : (f t g r u k x1 x2 x3 x4 x5 : List Item) → x1 ≡ f ++ t → x2 ≡ x1 ++ g → x3 ≡ x2 ++ r → x4 ≡ x3 ++ u → x5 ≡ x4 ++ k → x5 ≡ ((((f ++ t) ++ g) ++ r) ++ u) ++ k
+chained f t g r u k x1 x2 x3 x4 x5 p q s a b = cc
 
-pub ip6_added : (basis : Basis) (over mid to : ℕ) (chosen : List Chosen) (old t u x1 x2 x3 x4 new : List Item) → 2 ≤ over → t ≡ ip6_test_items over → x1 ≡ old ++ t
+pub ip6_added : (basis : Basis) (over mid to : ℕ) (chosen : List Chosen) (old x1 x2 x3 x4 new : List Item) → 2 ≤ over → x1 ≡ old ++ ip6_test_items over
     → Emits (λ age frame. said_of (ip6_header_lines basis frame)) 124 (over + 1) mid x1 x2
     → chosen ≡ basis.chosen → AddsRecords chosen mid to x2 x3
-    → u ≡ ip6_last_items → x4 ≡ x3 ++ u → new ≡ x4 ++ items.Label over ∷ []
+    → x4 ≡ x3 ++ ip6_last_items → new ≡ x4 ++ items.Label over ∷ []
     → AddsIp6 basis over to old new
-ip6_added basis over mid to chosen old t u x1 x2 x3 x4 new low v p rules is found w r s =
+ip6_added basis over mid to chosen old x1 x2 x3 x4 new low p rules is found r s =
     let records : AddsRecords basis.chosen mid to x2 x3 = subst (λ (cs : List Chosen). AddsRecords cs mid to x2 x3) is found in
     let lines = lines_part basis (over + 1) mid to 124 (weights basis.chosen) rules.fragment records.rules (omega arith) rules.part records.part in
     record {
       question = ip6_items over rules.fragment records.rules;
-      appended = chained old t rules.fragment records.rules u (items.Label over ∷ []) (ip6_test_items over) ip6_last_items x1 x2 x3 x4 new p rules.appended records.appended r s v w
+      appended = chained old (ip6_test_items over) rules.fragment records.rules ip6_last_items (items.Label over ∷ []) x1 x2 x3 x4 new p rules.appended records.appended r s
           ∙ regrouped old (ip6_test_items over) rules.fragment records.rules ip6_last_items (items.Label over ∷ []);
       part = part-same _ _ over to _ (142 + weights basis.chosen) _ (λ age frame. refl) (omega arith) (question_part basis over to (124 + weights basis.chosen + 7) (rules.fragment ++ (records.rules ++ ip6_last_items)) low lines);
       few = omega (arith, rules.few, records.few);

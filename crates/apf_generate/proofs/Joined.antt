@@ -1,5 +1,5 @@
--- The emitted fragments and the items of the other questions answer all questions.
-use Rattle.std.proofs.Common.{◌≡◌, ℕ, ◌+◌, ◌*◌, ◌≤◌, List, [], ◌++◌, length, sym, ap, subst, ◌∙◌, append_assoc, arith}
+-- The emitted fragments and the items of the other questions answer all questions, between the opening and the ends.
+use Rattle.std.proofs.Common.{◌≡◌, ℕ, ◌+◌, ◌*◌, ◌≤◌, List, ◌++◌, length, sym, ap, ◌∙◌, append_assoc, arith}
 use Rattle.std.specs.Prelude.{count_by, is_some}
 use Rattle.apf_asm.specs.declared.item.Item.{Item}
 use Rattle.policy_state.specs.declared.basis.Basis.{Basis}
@@ -13,8 +13,8 @@ use Rattle.rule_items.proofs.Language.{said_first}
 use Rattle.rule_items.proofs.Parts.{part-then, part-same}
 use Rattle.rule_items.specs.Rulings.{said_of}
 use Rattle.rule_items.proofs.Rulings.{said-otherwise}
-use Rattle.apf_generate.specs.Listing.{last_items}
-use Rattle.apf_generate.specs.Program.{asked, most_asked, AddsIp6, HoldsQuestions}
+use Rattle.apf_generate.specs.Listing.{opening_items, last_items, end_items}
+use Rattle.apf_generate.specs.Program.{asked, most_asked, AddsIp6, IsProgram}
 use Rattle.apf_generate.specs.Sizes.{weights}
 use Rattle.apf_generate.proofs.Others.{others_part}
 
@@ -31,19 +31,19 @@ asked_said : (basis : Basis) (age : ℕ) (frame : List ℕ)
     → said_first (said_of (link basis frame)) (said_first (said_of (arp basis frame)) (said_first (said_of (ip4 basis frame)) (said_first (said_of (ip6 basis age frame)) (said_of (others frame))))) ≡ asked basis age frame
 asked_said basis age frame = all_said (link basis frame) (arp basis frame) (ip4 basis frame) (ip6 basis age frame) (others frame)
 
-regrouped : (f g i h k : List Item) → ((((([] ++ f) ++ g) ++ i) ++ h) ++ k) ≡ f ++ (g ++ (i ++ (h ++ k)))
-regrouped f g i h k = simp append_assoc
+regrouped : (o f g i h k e : List Item) → ((((((o ++ f) ++ g) ++ i) ++ h) ++ k) ++ e) ≡ o ++ ((f ++ (g ++ (i ++ (h ++ k)))) ++ e)
+regrouped o f g i h k e = simp append_assoc
 
-chained : (f g i h k x0 x1 x2 x3 x4 x5 : List Item) → x0 ≡ [] → x1 ≡ x0 ++ f → x2 ≡ x1 ++ g → x3 ≡ x2 ++ i → x4 ≡ x3 ++ h → x5 ≡ x4 ++ k → x5 ≡ (((([] ++ f) ++ g) ++ i) ++ h) ++ k
-chained f g i h k x0 x1 x2 x3 x4 x5 none p q r s t = cc
+chained : (o f g i h k e x0 x1 x2 x3 x4 x5 x6 : List Item) → x0 ≡ o → x1 ≡ x0 ++ f → x2 ≡ x1 ++ g → x3 ≡ x2 ++ i → x4 ≡ x3 ++ h → x5 ≡ x4 ++ k → x6 ≡ x5 ++ e → x6 ≡ (((((o ++ f) ++ g) ++ i) ++ h) ++ k) ++ e
+chained o f g i h k e x0 x1 x2 x3 x4 x5 x6 start p q r s t u = cc
 
-pub joined : (basis : Basis) (two three four to : ℕ) (x0 x1 x2 x3 x4 x5 k : List Item) → x0 ≡ []
+pub joined : (basis : Basis) (two three four to : ℕ) (x0 x1 x2 x3 x4 x5 x6 : List Item) → x0 ≡ opening_items
     → Emits (λ age frame. said_of (link basis frame)) (20 + 9 * length basis.config.deny) 2 two x0 x1
     → Emits (λ age frame. said_of (arp basis frame)) 112 two three x1 x2
     → Emits (λ age frame. said_of (ip4 basis frame)) (160 + 80 * count_by is_some basis.state.keepalives) three four x2 x3
     → AddsIp6 basis four to x3 x4
-    → k ≡ last_items → x5 ≡ x4 ++ k → length basis.chosen ≤ 1000 → HoldsQuestions basis x5
-joined basis two three four to x0 x1 x2 x3 x4 x5 k none first second third fifth q s records =
+    → x5 ≡ x4 ++ last_items → x6 ≡ x5 ++ end_items → length basis.chosen ≤ 1000 → IsProgram basis x6
+joined basis two three four to x0 x1 x2 x3 x4 x5 x6 start first second third fifth last ends records =
     let from_two : 2 ≤ two = first.part.form.rises in
     let from_three : two ≤ three = second.part.form.rises in
     let from_four : three ≤ four = third.part.form.rises in
@@ -54,13 +54,13 @@ joined basis two three four to x0 x1 x2 x3 x4 x5 k none first second third fifth
     let from_ip4 = part-then _ _ three four to a (142 + w + 26) third.fragment (fifth.question ++ last_items) (omega arith) third.part from_ip6 in
     let from_arp = part-then _ _ two three to 112 (a + (142 + w + 26)) second.fragment (third.fragment ++ (fifth.question ++ last_items)) from_two second.part from_ip4 in
     let all = part-then _ _ 2 two to (20 + 9 * n) (112 + (a + (142 + w + 26))) first.fragment (second.fragment ++ (third.fragment ++ (fifth.question ++ last_items))) (omega arith) first.part from_arp in
-    let parts : x5 ≡ first.fragment ++ (second.fragment ++ (third.fragment ++ (fifth.question ++ k))) =
-    chained first.fragment second.fragment third.fragment fifth.question k x0 x1 x2 x3 x4 x5 none first.appended second.appended third.appended fifth.appended s
-    ∙ regrouped first.fragment second.fragment third.fragment fifth.question k in
-    let same : x5 ≡ first.fragment ++ (second.fragment ++ (third.fragment ++ (fifth.question ++ last_items))) = rw q at parts in
     record {
-      to = to;
-      few = omega (arith, first.few, second.few, third.few, fifth.few);
-      part = subst (λ (xs : List Item). IsPart (asked basis) 2 to (most_asked basis) xs) (sym same)
-          (part-same _ (asked basis) 2 to _ (most_asked basis) _ (asked_said basis) (omega arith) all);
+      questions = first.fragment ++ (second.fragment ++ (third.fragment ++ (fifth.question ++ last_items)));
+      holds = record {
+        to = to;
+        few = omega (arith, first.few, second.few, third.few, fifth.few);
+        part = part-same _ (asked basis) 2 to _ (most_asked basis) _ (asked_said basis) (omega arith) all;
+      };
+      whole = chained opening_items first.fragment second.fragment third.fragment fifth.question last_items end_items x0 x1 x2 x3 x4 x5 x6 start first.appended second.appended third.appended fifth.appended last ends
+          ∙ regrouped opening_items first.fragment second.fragment third.fragment fifth.question last_items end_items;
     }

@@ -4,3 +4,4 @@ pub mod Program
 pub mod Sizes
 pub mod RaListing
 pub mod Ranges
+pub mod Extending

@@ -1,9 +1,9 @@
 //! The generator.
 
-ghost use Rattle.std.specs.Prelude.{◌≡◌, ◌≤◌, length, IfOk, OnOk};
+ghost use Rattle.std.specs.Prelude.{◌≡◌, ◌≤◌, ◌++◌, length, IfOk, OnOk};
 ghost use Rattle.apf_generate.specs.Means.{Means};
 ghost use Rattle.apf_generate.specs.Listing.{raising_items, ip6_test_items, ip6_last_items, last_items, end_items};
-ghost use Rattle.apf_generate.specs.Program.{AddsIp6, HoldsQuestions, IsProgram};
+ghost use Rattle.apf_generate.specs.Program.{AddsIp6, IsProgram};
 ghost use Rattle.apf_generate.specs.Sizes.{need_of};
 ghost use Rattle.size_fit.specs.Sizes.{limit_of};
 
@@ -21,44 +21,32 @@ use std::alloc::Global;
 /// The broadcast MAC.
 const BROADCAST: [u8; 6] = [0xff; 6];
 
+/// Room for the items of a usual program.
+const ROOM: usize = 256;
+
 /// One more in the word at a distance from R1, which is a signed number of one byte.
-fn raising_items(alloc: Global, distance: u8) -> Result<List<Item>, OutOfMemory>
-    ensures { IfOk result (λ xs. xs ≡ raising_items distance) }
+fn add_raising(alloc: Global, distance: u8, out: &mut List<Item>) -> Result<(), OutOfMemory>
+    ensures { OnOk result (out.new ≡ out.old ++ raising_items distance) }
 {
-    List::of(
-        alloc,
-        [
-            fixed(alloc, Op::Lddw, 0, 1, u32::from(distance)),
-            fixed(alloc, Op::Add, 0, 1, 1),
-            fixed(alloc, Op::Stdw, 0, 1, u32::from(distance)),
-        ],
-    )
+    out.push(fixed(alloc, Op::Lddw, 0, 1, u32::from(distance)))?;
+    out.push(fixed(alloc, Op::Add, 0, 1, 1))?;
+    out.push(fixed(alloc, Op::Stdw, 0, 1, u32::from(distance)))
 }
 
 /// Frames other than IPv6 go over its question.
-fn ip6_test_items(alloc: Global, over: u32) -> Result<List<Item>, OutOfMemory>
-    ensures { IfOk result (λ xs. xs ≡ ip6_test_items over) }
+fn add_ip6_test(alloc: Global, over: u32, out: &mut List<Item>) -> Result<(), OutOfMemory>
+    ensures { OnOk result (out.new ≡ out.old ++ ip6_test_items over) }
 {
-    List::of(
-        alloc,
-        [
-            load(alloc, Op::Ldh, 12),
-            jump_if(alloc, Op::Jne, 0x86dd, Target::Label(over)),
-        ],
-    )
+    out.push(load(alloc, Op::Ldh, 12))?;
+    out.push(jump_if(alloc, Op::Jne, 0x86dd, Target::Label(over)))
 }
 
 /// An IPv6 packet that no rule answers.
-fn ip6_last_items(alloc: Global) -> Result<List<Item>, OutOfMemory>
-    ensures { IfOk result (λ xs. xs ≡ ip6_last_items) }
+fn add_ip6_last(alloc: Global, out: &mut List<Item>) -> Result<(), OutOfMemory>
+    ensures { OnOk result (out.new ≡ out.old ++ ip6_last_items) }
 {
-    List::of(
-        alloc,
-        [
-            counting(alloc, Counter::PassedIpv6Icmp),
-            jump(alloc, to_end(Verdict::Pass)),
-        ],
-    )
+    out.push(counting(alloc, Counter::PassedIpv6Icmp))?;
+    out.push(jump(alloc, to_end(Verdict::Pass)))
 }
 
 /// Appends the question on IPv6.
@@ -75,70 +63,54 @@ fn add_ip6(
 {
     let over = *next;
     *next += 1;
-    out.append(ip6_test_items(alloc, over)?)?;
+    add_ip6_test(alloc, over, out)?;
     emit_ip6(alloc, basis, next, out)?;
     add_records(alloc, basis.chosen.as_slice(), next, out)?;
-    out.append(ip6_last_items(alloc)?)?;
+    add_ip6_last(alloc, out)?;
     out.push(Item::Label(over))?;
     Ok(())
 }
 
 /// All other frames.
-fn last_items(alloc: Global) -> Result<List<Item>, OutOfMemory>
-    ensures { IfOk result (λ xs. xs ≡ last_items) }
+fn add_last(alloc: Global, out: &mut List<Item>) -> Result<(), OutOfMemory>
+    ensures { OnOk result (out.new ≡ out.old ++ last_items) }
 {
-    let unicast = jump_unless(alloc, &BROADCAST, to_end(Verdict::Pass))?;
-    List::of(
-        alloc,
-        [
-            place(alloc, 0),
-            counting(alloc, Counter::PassedNonIpUnicast),
-            unicast,
-            counting(alloc, Counter::DroppedEthBroadcast),
-            jump(alloc, to_end(Verdict::Drop)),
-        ],
-    )
+    out.push(place(alloc, 0))?;
+    out.push(counting(alloc, Counter::PassedNonIpUnicast))?;
+    out.push(jump_unless(alloc, &BROADCAST, to_end(Verdict::Pass))?)?;
+    out.push(counting(alloc, Counter::DroppedEthBroadcast))?;
+    out.push(jump(alloc, to_end(Verdict::Drop)))
 }
 
 /// The two ends, at the labels 0 and 1: the counter that R1 asks for is raised.
-fn end_items(alloc: Global) -> Result<List<Item>, OutOfMemory>
-    ensures { IfOk result (λ xs. xs ≡ end_items) }
+fn add_ends(alloc: Global, out: &mut List<Item>) -> Result<(), OutOfMemory>
+    ensures { OnOk result (out.new ≡ out.old ++ end_items) }
 {
-    let mut items = List::new(alloc);
-    items.push(Item::Label(0))?;
-    items.append(raising_items(alloc, 0)?)?;
-    items.push(jump(alloc, Target::Pass))?;
-    items.push(Item::Label(1))?;
-    items.append(raising_items(alloc, 0)?)?;
-    items.push(jump(alloc, Target::Drop))?;
-    Ok(items)
+    out.push(Item::Label(0))?;
+    add_raising(alloc, 0, out)?;
+    out.push(jump(alloc, Target::Pass))?;
+    out.push(Item::Label(1))?;
+    add_raising(alloc, 0, out)?;
+    out.push(jump(alloc, Target::Drop))
 }
 
-/// All questions, in the policy's order.
-fn question_items(alloc: Global, basis: &Basis) -> Result<List<Item>, OutOfMemory>
-    requires { length basis.now.chosen ≤ 1000 }
-    ensures { IfOk result (λ xs. HoldsQuestions basis.now xs) }
-{
-    let mut next = 2;
-    let mut items = List::new(alloc);
-    emit_link(alloc, basis, &mut next, &mut items)?;
-    emit_arp(alloc, basis, &mut next, &mut items)?;
-    emit_ip4(alloc, basis, &mut next, &mut items)?;
-    add_ip6(alloc, basis, &mut next, &mut items)?;
-    items.append(last_items(alloc)?)?;
-    Ok(items)
-}
-
-/// The items of a whole program. The opening raises `TotalPackets`, the last word of the memory.
+/// The items of a whole program. The opening raises `TotalPackets`, the last word of the memory, and the questions stand
+/// in the policy's order.
 fn program_items(alloc: Global, basis: &Basis) -> Result<List<Item>, OutOfMemory>
     requires { length basis.now.chosen ≤ 1000 }
     ensures { IfOk result (IsProgram basis.now) }
 {
-    let questions = question_items(alloc, basis)?;
-    let mut items = raising_items(alloc, 252)?;
-    items.append(questions)?;
-    items.append(end_items(alloc)?)?;
-    Ok(items)
+    let mut next = 2;
+    let mut out = List::new(alloc);
+    out.reserve(ROOM)?;
+    add_raising(alloc, 252, &mut out)?;
+    emit_link(alloc, basis, &mut next, &mut out)?;
+    emit_arp(alloc, basis, &mut next, &mut out)?;
+    emit_ip4(alloc, basis, &mut next, &mut out)?;
+    add_ip6(alloc, basis, &mut next, &mut out)?;
+    add_last(alloc, &mut out)?;
+    add_ends(alloc, &mut out)?;
+    Ok(out)
 }
 
 /// The code of a whole program's items. Each label stands once and behind its jumps, and the code is short, so nothing

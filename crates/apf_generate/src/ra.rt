@@ -1,6 +1,6 @@
 //! The rule for a chosen record of a router advertisement.
 
-ghost use Rattle.std.specs.Prelude.{◌≡◌, ◌≤◌, ◌<◌, ◌+◌, ◌*◌, ◌^◌, ℕ, length, flat_map, slice_index, All, IfOk, OnOk, OnErr};
+ghost use Rattle.std.specs.Prelude.{◌≡◌, ◌≤◌, ◌<◌, ◌+◌, ◌*◌, ◌^◌, ◌++◌, ℕ, length, flat_map, slice_index, All, OnOk, OnErr};
 ghost use Rattle.ra_records.specs.Masks.{IsWithin};
 ghost use Rattle.ra_records.specs.Advert.{IsSound};
 ghost use Rattle.size_fit.specs.Sizes.{weight};
@@ -8,7 +8,8 @@ ghost use Rattle.policy_state.specs.Records.{advertised_again};
 ghost use Rattle.rule_items.specs.Fragment.{Emits};
 ghost use Rattle.rule_items.specs.Rulings.{said_of};
 ghost use Rattle.apf_generate.specs.Program.{AddsRecords};
-ghost use Rattle.apf_generate.specs.RaListing.{section_items, lifetime_items, compare_items, ra_items};
+ghost use Rattle.apf_generate.specs.Extending.{Extends};
+ghost use Rattle.apf_generate.specs.RaListing.{section_items, lifetime_items, ra_items};
 
 use apf_asm::{Item, Target};
 use apf_base::{List, OutOfMemory};
@@ -20,84 +21,82 @@ use rule_items::{counting, fixed, jump, jump_if, jump_unless, to_end};
 use std::alloc::Global;
 
 /// Compares all sections of the frame with those of some bytes.
-fn all_sections(
+fn add_sections(
     alloc: Global,
     away: u32,
     bytes: &[u8],
     sections: &[Span],
-) -> Result<List<Item>, OutOfMemory>
+    out: &mut List<Item>,
+) -> Result<(), OutOfMemory>
     requires { All (IsWithin (length bytes.now)) sections.now }
-    ensures items { IfOk result (λ xs. xs ≡ flat_map (section_items away bytes.now) sections.now) }
-    ensures bytes { IfOk result (λ xs. (k : ℕ) → slice_index bytes.now k < 256) }
+    ensures ok { OnOk result (out.new ≡ out.old ++ flat_map (section_items away bytes.now) sections.now) }
+    ensures err { OnErr result (Extends out.old out.new) }
+    ensures bytes { OnOk result ((k : ℕ) → slice_index bytes.now k < 256) }
 {
-    let mut items = List::new(alloc);
     for section in sections {
         let at = section.at as usize;
         let end = at + section.len as usize;
-        items.push(fixed(alloc, Op::Li, 0, 2, section.at))?;
-        items.push(jump_unless(alloc, &bytes[at..end], Target::Label(away))?)?;
+        out.push(fixed(alloc, Op::Li, 0, 2, section.at))?;
+        out.push(jump_unless(alloc, &bytes[at..end], Target::Label(away))?)?;
     }
-    Ok(items)
+    Ok(())
 }
 
 /// Compares all lifetimes in the frame with a hold.
-fn all_lifetimes(
+fn add_lifetimes(
     alloc: Global,
     away: u32,
     hold: u32,
     lifetimes: &[Span],
-) -> Result<List<Item>, OutOfMemory>
-    ensures { IfOk result (λ xs. xs ≡ flat_map (lifetime_items away hold) lifetimes.now) }
+    out: &mut List<Item>,
+) -> Result<(), OutOfMemory>
+    ensures ok { OnOk result (out.new ≡ out.old ++ flat_map (lifetime_items away hold) lifetimes.now) }
+    ensures err { OnErr result (Extends out.old out.new) }
 {
-    let mut items = List::new(alloc);
     for lifetime in lifetimes {
         let op = if lifetime.len == 2 { Op::Ldh } else { Op::Ldw };
-        items.push(fixed(alloc, op, 0, 2, lifetime.at))?;
-        items.push(jump_if(alloc, Op::Jlt, hold, Target::Label(away)))?;
+        out.push(fixed(alloc, op, 0, 2, lifetime.at))?;
+        out.push(jump_if(alloc, Op::Jlt, hold, Target::Label(away)))?;
     }
-    Ok(items)
+    Ok(())
 }
 
-/// A frame that is as long as the record.
-fn compare_items(alloc: Global, away: u32, chosen: &Chosen) -> Result<List<Item>, OutOfMemory>
-    ensures items { IfOk result (λ xs. xs ≡ compare_items away chosen.now) }
-    ensures sound { IfOk result (λ xs. IsSound chosen.now.advert.bytes chosen.now.advert.lifetimes) }
-    ensures bytes { IfOk result (λ xs. (k : ℕ) → slice_index chosen.now.advert.bytes k < 256) }
+/// The whole fragment. An `Err` leaves a part of it.
+fn add_ra(
+    alloc: Global,
+    away: u32,
+    chosen: &Chosen,
+    out: &mut List<Item>,
+) -> Result<(), OutOfMemory>
+    ensures ok { OnOk result (out.new ≡ out.old ++ ra_items away chosen.now) }
+    ensures err { OnErr result (Extends out.old out.new) }
+    ensures sound { OnOk result (IsSound chosen.now.advert.bytes chosen.now.advert.lifetimes) }
+    ensures bytes { OnOk result ((k : ℕ) → slice_index chosen.now.advert.bytes k < 256) }
+    ensures hold { OnOk result (chosen.now.hold < 2 ^ 32) }
 {
+    let bytes = chosen.advert.bytes();
     let sections = chosen.advert.sections();
-    let mut items = all_sections(alloc, away, chosen.advert.bytes(), sections)?;
-    items.append(all_lifetimes(alloc, away, chosen.hold, chosen.advert.lifetimes())?)?;
-    items.append(List::of(
-        alloc,
-        [
-            counting(alloc, Counter::DroppedRa),
-            jump(alloc, to_end(Verdict::Drop)),
-        ],
-    )?)?;
-    Ok(items)
-}
-
-/// The whole fragment.
-fn ra_items(alloc: Global, away: u32, chosen: &Chosen) -> Result<List<Item>, OutOfMemory>
-    ensures items { IfOk result (λ xs. xs ≡ ra_items away chosen.now) }
-    ensures sound { IfOk result (λ xs. IsSound chosen.now.advert.bytes chosen.now.advert.lifetimes) }
-    ensures bytes { IfOk result (λ xs. (k : ℕ) → slice_index chosen.now.advert.bytes k < 256) }
-    ensures hold { IfOk result (λ xs. chosen.now.hold < 2 ^ 32) }
-{
-    let compared = compare_items(alloc, away, chosen)?;
-    let len = chosen.advert.bytes().len() as u32;
-    let mut items = List::of(
+    let head = List::of(
         alloc,
         [
             fixed(alloc, Op::Ext, 0, 1, 15),
             jump_if(alloc, Op::Jgt, chosen.hold, Target::Label(away)),
             fixed(alloc, Op::Ext, 0, 1, 14),
-            jump_if(alloc, Op::Jne, len, Target::Label(away)),
+            jump_if(alloc, Op::Jne, bytes.len() as u32, Target::Label(away)),
         ],
     )?;
-    items.append(compared)?;
-    items.push(Item::Label(away))?;
-    Ok(items)
+    out.append(head)?;
+    add_sections(alloc, away, bytes, sections, out)?;
+    add_lifetimes(alloc, away, chosen.hold, chosen.advert.lifetimes(), out)?;
+    let tail = List::of(
+        alloc,
+        [
+            counting(alloc, Counter::DroppedRa),
+            jump(alloc, to_end(Verdict::Drop)),
+            Item::Label(away),
+        ],
+    )?;
+    out.append(tail)
 }
 
 /// Appends the question on frames that match a chosen record. It draws one label.
@@ -115,7 +114,11 @@ pub fn emit_ra(
     ensures err { OnErr result (out.new ≡ out.old) }
     ensures next { OnErr result (next.new ≡ next.old) }
 {
-    out.append(ra_items(alloc, *next, chosen)?)?;
+    let before = out.len();
+    let Ok(()) = add_ra(alloc, *next, chosen, out) else {
+        out.truncate(before);
+        return Err(OutOfMemory);
+    };
     *next += 1;
     Ok(())
 }

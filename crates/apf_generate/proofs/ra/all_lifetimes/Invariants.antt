@@ -1,6 +1,0 @@
-use Rattle.std.proofs.Common.{◌≡◌, take, flat_map}
-use Rattle.apf_generate.specs.RaListing.{lifetime_items}
-use Rattle.apf_generate.proofs.ra.all_lifetimes.Given as goal
-
-abbrev pub invariant-loop-lifetime : goal.invariant-loop-lifetime
-invariant-loop-lifetime l = l.items ≡ flat_map (lifetime_items l.away l.hold) (take l.lifetime-index l.lifetimes)

@@ -1,6 +1,0 @@
-use Rattle.std.proofs.Common.{◌≡◌, take, flat_map}
-use Rattle.apf_generate.specs.RaListing.{section_items}
-use Rattle.apf_generate.proofs.ra.all_sections.Given as goal
-
-abbrev pub invariant-loop-section : goal.invariant-loop-section
-invariant-loop-section l = l.items ≡ flat_map (section_items l.away l.bytes) (take l.section-index l.sections)
