@@ -1,4 +1,5 @@
 pub mod ArpRuling
 pub mod Emitted
+pub mod Kept
 pub mod LinkRuling
 pub mod Sound

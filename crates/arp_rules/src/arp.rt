@@ -1,6 +1,6 @@
 //! The rule for ARP.
 
-ghost use Rattle.std.specs.Prelude.{◌≡◌, ◌+◌, ◌≤◌, IfOk, OnOk, OnErr};
+ghost use Rattle.std.specs.Prelude.{◌≡◌, ◌+◌, ◌≤◌, ◌++◌, length, take, OnOk, OnErr};
 ghost use Rattle.policy_state.specs.Policy.{arp};
 ghost use Rattle.rule_items.specs.Fragment.{Emits};
 ghost use Rattle.arp_rules.specs.Listing.{reply_items, target_items, packet_items, arp_items, IsInRange};
@@ -21,11 +21,12 @@ const BROADCAST: [u8; 6] = [0xff; 6];
 const ETHERNET_AND_IPV4: [u8; 6] = [0, 1, 8, 0, 6, 4];
 
 /// A packet that is no request, with the operation in R0.
-fn reply_items(alloc: Global) -> Result<List<Item>, OutOfMemory>
-    ensures { IfOk result (λ xs. xs ≡ reply_items) }
+fn add_replies(alloc: Global, out: &mut List<Item>) -> Result<(), OutOfMemory>
+    ensures ok { OnOk result (out.new ≡ out.old ++ reply_items) }
+    ensures err { OnErr result (out.new ≡ out.old) }
 {
     let unicast = jump_unless(alloc, &BROADCAST, to_end(Verdict::Pass))?;
-    List::of(
+    out.append(List::of(
         alloc,
         [
             counting(alloc, Counter::PassedArpUnknown),
@@ -37,19 +38,24 @@ fn reply_items(alloc: Global) -> Result<List<Item>, OutOfMemory>
             counting(alloc, Counter::PassedArpUnicastReply),
             unicast,
         ],
-    )
+    )?)
 }
 
 /// Whom a packet asks for.
-fn target_items(alloc: Global, address: Option<Address>) -> Result<List<Item>, OutOfMemory>
-    ensures items { IfOk result (λ xs. xs ≡ target_items address) }
-    ensures fits { IfOk result (λ xs. IsInRange address) }
+fn add_target(
+    alloc: Global,
+    address: Option<Address>,
+    out: &mut List<Item>,
+) -> Result<(), OutOfMemory>
+    ensures ok { OnOk result (out.new ≡ out.old ++ target_items address) }
+    ensures fits { OnOk result (IsInRange address) }
+    ensures err { OnErr result (out.new ≡ out.old) }
 {
     let (counter, op, number) = match address {
         None => (Counter::DroppedGarpReply, Op::Jeq, 0),
         Some(own) => (Counter::DroppedArpOtherHost, Op::Jne, own.ip),
     };
-    List::of(
+    out.append(List::of(
         alloc,
         [
             load(alloc, Op::Ldw, 38),
@@ -58,20 +64,22 @@ fn target_items(alloc: Global, address: Option<Address>) -> Result<List<Item>, O
             counting(alloc, Counter::PassedArp),
             jump(alloc, to_end(Verdict::Pass)),
         ],
-    )
+    )?)
 }
 
-/// A packet. A request goes over what is asked of replies.
-fn packet_items(
+/// A packet. A request goes over what is asked of replies. An `Err` leaves a part of the items.
+fn add_packet(
     alloc: Global,
     request: u32,
     address: Option<Address>,
-) -> Result<List<Item>, OutOfMemory>
-    ensures items { IfOk result (λ xs. xs ≡ packet_items request address) }
-    ensures fits { IfOk result (λ xs. IsInRange address) }
+    out: &mut List<Item>,
+) -> Result<(), OutOfMemory>
+    ensures ok { OnOk result (out.new ≡ out.old ++ packet_items request address) }
+    ensures fits { OnOk result (IsInRange address) }
+    ensures err { OnErr result (take (length out.old) out.new ≡ out.old) }
 {
     let other = jump_unless(alloc, &ETHERNET_AND_IPV4, to_end(Verdict::Pass))?;
-    let mut items = List::of(
+    out.append(List::of(
         alloc,
         [
             place(alloc, 14),
@@ -80,29 +88,34 @@ fn packet_items(
             load(alloc, Op::Ldh, 20),
             jump_if(alloc, Op::Jeq, 1, Target::Label(request)),
         ],
-    )?;
-    items.append(reply_items(alloc)?)?;
-    items.push(Item::Label(request))?;
-    items.append(target_items(alloc, address)?)?;
-    Ok(items)
+    )?)?;
+    add_replies(alloc, out)?;
+    out.push(Item::Label(request))?;
+    add_target(alloc, address, out)
 }
 
-/// The whole fragment. Other frames go over the packet.
-fn arp_items(alloc: Global, next: u32, address: Option<Address>) -> Result<List<Item>, OutOfMemory>
+/// The whole fragment. Other frames go over the packet. An `Err` leaves a part of the items.
+#[tactic(auto, using(crate::proofs::Kept::kept))]
+fn add_arp(
+    alloc: Global,
+    next: u32,
+    address: Option<Address>,
+    out: &mut List<Item>,
+) -> Result<(), OutOfMemory>
     requires { next ≤ 1000000 }
-    ensures items { IfOk result (λ xs. xs ≡ arp_items next address) }
-    ensures fits { IfOk result (λ xs. IsInRange address) }
+    ensures ok { OnOk result (out.new ≡ out.old ++ arp_items next address) }
+    ensures fits { OnOk result (IsInRange address) }
+    ensures err { OnErr result (take (length out.old) out.new ≡ out.old) }
 {
-    let mut items = List::of(
+    out.append(List::of(
         alloc,
         [
             load(alloc, Op::Ldh, 12),
             jump_if(alloc, Op::Jne, 0x806, Target::Label(next)),
         ],
-    )?;
-    items.append(packet_items(alloc, next + 1, address)?)?;
-    items.push(Item::Label(next))?;
-    Ok(items)
+    )?)?;
+    add_packet(alloc, next + 1, address, out)?;
+    out.push(Item::Label(next))
 }
 
 /// Appends the question on ARP (RFC 826). It draws two labels.
@@ -120,7 +133,11 @@ pub fn emit_arp(
     ensures err { OnErr result (out.new ≡ out.old) }
     ensures next { OnErr result (next.new ≡ next.old) }
 {
-    out.append(arp_items(alloc, *next, basis.state.address)?)?;
+    let before = out.len();
+    let Ok(()) = add_arp(alloc, *next, basis.state.address, out) else {
+        out.truncate(before);
+        return Err(OutOfMemory);
+    };
     *next += 2;
     Ok(())
 }

@@ -1,9 +1,11 @@
 //! The rule for the Ethernet header.
 
-ghost use Rattle.std.specs.Prelude.{◌≡◌, ◌+◌, ◌*◌, ◌≤◌, ◌<◌, ◌^◌, length, All, IfOk, OnOk, OnErr};
+ghost use Rattle.std.specs.Prelude.{◌≡◌, ◌+◌, ◌*◌, ◌≤◌, ◌<◌, ◌^◌, ◌∷◌, ◌++◌, length, take, All, OnOk, OnErr};
+ghost use Rattle.apf_coding.specs.declared.instruction.Op.TheVariants.{Ldh};
 ghost use Rattle.policy_state.specs.Policy.{link};
+ghost use Rattle.rule_items.specs.Building.{load};
 ghost use Rattle.rule_items.specs.Fragment.{Emits};
-ghost use Rattle.arp_rules.specs.Listing.{denied_items, link_items};
+ghost use Rattle.arp_rules.specs.Listing.{length_items, denied_items, link_items};
 ghost use Rattle.rule_items.specs.Rulings.{said_of};
 
 use apf_asm::Item;
@@ -14,32 +16,42 @@ use policy_state::Basis;
 use rule_items::{counting, jump_if, load, to_end};
 use std::alloc::Global;
 
-/// Denied ethertypes, with the ethertype in R0.
-fn denied_items(alloc: Global, deny: &[u16]) -> Result<List<Item>, OutOfMemory>
-    ensures items { IfOk result (λ xs. xs ≡ denied_items deny.now) }
-    ensures fits { IfOk result (λ xs. All (λ d. d < 2 ^ 16) deny.now) }
+/// Denied ethertypes, with the ethertype in R0. An `Err` leaves a part of the items.
+fn add_denied(alloc: Global, deny: &[u16], out: &mut List<Item>) -> Result<(), OutOfMemory>
+    ensures ok { OnOk result (out.new ≡ out.old ++ denied_items deny.now) }
+    ensures fits { OnOk result (All (λ d. d < 2 ^ 16) deny.now) }
+    ensures err { OnErr result (take (length out.old) out.new ≡ out.old) }
 {
-    let mut items = List::new(alloc);
-    items.push(counting(alloc, Counter::DroppedEthertypeDenied))?;
+    out.push(counting(alloc, Counter::DroppedEthertypeDenied))?;
     for denied in deny {
-        items.push(jump_if(alloc, Op::Jeq, u32::from(*denied), to_end(Verdict::Drop)))?;
+        out.push(jump_if(alloc, Op::Jeq, u32::from(*denied), to_end(Verdict::Drop)))?;
     }
-    Ok(items)
+    Ok(())
 }
 
-/// The whole fragment.
-fn link_items(alloc: Global, basis: &Basis) -> Result<List<Item>, OutOfMemory>
-    ensures items { IfOk result (λ xs. xs ≡ link_items basis.now) }
-    ensures fits { IfOk result (λ xs. All (λ d. d < 2 ^ 16) basis.now.config.deny) }
+/// The ethertype, and 802.3 frames where they are dropped. An `Err` leaves a part of the items.
+fn add_length(alloc: Global, drops: bool, out: &mut List<Item>) -> Result<(), OutOfMemory>
+    ensures ok { OnOk result (out.new ≡ out.old ++ load Ldh 12 ∷ length_items drops) }
+    ensures err { OnErr result (take (length out.old) out.new ≡ out.old) }
 {
-    let mut items = List::new(alloc);
-    items.push(load(alloc, Op::Ldh, 12))?;
-    if basis.config.drop_802_3 {
-        items.push(counting(alloc, Counter::Dropped8023Frame))?;
-        items.push(jump_if(alloc, Op::Jlt, 0x600, to_end(Verdict::Drop)))?;
+    out.push(load(alloc, Op::Ldh, 12))?;
+    if drops {
+        out.push(counting(alloc, Counter::Dropped8023Frame))?;
+        out.push(jump_if(alloc, Op::Jlt, 0x600, to_end(Verdict::Drop)))?;
     }
-    items.append(denied_items(alloc, basis.config.deny.as_slice())?)?;
-    Ok(items)
+    Ok(())
+}
+
+/// The whole fragment. An `Err` leaves a part of the items.
+#[tactic(auto, using(crate::proofs::Kept::kept))]
+fn add_link(alloc: Global, basis: &Basis, out: &mut List<Item>) -> Result<(), OutOfMemory>
+    ensures ok { OnOk result (out.new ≡ out.old ++ link_items basis.now) }
+    ensures fits { OnOk result (All (λ d. d < 2 ^ 16) basis.now.config.deny) }
+    ensures err { OnErr result (take (length out.old) out.new ≡ out.old) }
+{
+    add_length(alloc, basis.config.drop_802_3, out)?;
+    add_denied(alloc, basis.config.deny.as_slice(), out)?;
+    Ok(())
 }
 
 /// Appends the questions on 802.3 frames and on denied ethertypes. It draws no label.
@@ -58,6 +70,10 @@ pub fn emit_link(
     ensures next { OnErr result (next.new ≡ next.old) }
 {
     let _ = next;
-    out.append(link_items(alloc, basis)?)?;
+    let before = out.len();
+    let Ok(()) = add_link(alloc, basis, out) else {
+        out.truncate(before);
+        return Err(OutOfMemory);
+    };
     Ok(())
 }

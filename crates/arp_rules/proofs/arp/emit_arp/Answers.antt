@@ -1,11 +1,9 @@
 -- The fragment stands behind the old items.
-use Rattle.std.proofs.Common.{◌+◌, List, ◌++◌, ap, refl, ◌∙◌}
-use Rattle.apf_asm.specs.declared.item.Item.{Item}
+use Rattle.std.proofs.Common.{◌+◌, refl}
 use Rattle.arp_rules.proofs.Emitted.{arp_emitted}
 use Rattle.arp_rules.proofs.arp.emit_arp.Goals as goal
 
 pub returns-clause-ok : goal.returns-clause-ok
 returns-clause-ok c =
-    arp_emitted c.args.basis.now c.args.next.now (c.args.next.now + 2) c.args.out.now c.append.new.self
-    (c.in_ok-append.ensures.ok ∙ ap (λ (xs : List Item). c.args.out.now ++ xs) c.in_ok-arp_items.ensures.items)
-    c.in_ok-arp_items.ensures.fits c.requires.low refl
+    arp_emitted c.args.basis.now c.args.next.now (c.args.next.now + 2) c.args.out.now c.add_arp.new.out
+    c.in-Ok.ensures.ok c.in-Ok.ensures.fits c.requires.low refl
