@@ -1,5 +1,5 @@
 -- The items for all keepalives are a fragment that says what their question answers.
-use Rattle.std.proofs.Common.{◌≡◌, ℕ, ◌+◌, ◌*◌, ◌≤◌, Bool, true, false, cond, eqb, List, [], ◌∷◌, ◌++◌, map, Option, Some, None, refl, sym, ap, subst, append-nil, arith, lit<}
+use Rattle.std.proofs.Common.{◌≡◌, ℕ, ◌+◌, ◌*◌, ◌≤◌, Bool, true, false, cond, eqb, List, [], ◌∷◌, ◌++◌, map, Option, Some, None, refl, sym, ap, subst, append-nil, ◌∙◌, arith, lit<}
 use Rattle.std.specs.Prelude.{count_by, is_some}
 use Rattle.std.specs.List.{list_any}
 use Rattle.std.proofs.lemmas.List.Sums.{sum_by-cons}
@@ -20,7 +20,7 @@ use Rattle.rule_items.proofs.Forms.{sound-nil}
 use Rattle.rule_items.proofs.Parts.{fragment-of, fresh-above, part-then, part-same, part-yields}
 use Rattle.rule_items.proofs.Rules.{done, restated, reads_byte, skips_if, told}
 use Rattle.rule_items.proofs.Rulings.{rulings, said-otherwise}
-use Rattle.ip_rules.specs.Ip4Listing.{answer_items, slots_items, segment_items}
+use Rattle.ip_rules.specs.Ip4Listing.{answer_items, slots_items, segment_items, keepalive_items, label_behind}
 use Rattle.ip_rules.proofs.KeepaliveForm.{answer_fragment}
 use Rattle.ip_rules.proofs.KeepaliveRuling.{answer_tells}
 use Rattle.ip_rules.proofs.Over.{over_fragment}
@@ -109,3 +109,17 @@ some_emitted basis next to old new some le e few made =
           (some_part next slots le (some_counted slots some)));
       few = omega arith;
     }
+
+-- by whether there is a keepalive
+by_some : (some : Bool) (basis : Basis) (next : ℕ) (old new : List Item) → list_any is_some basis.state.keepalives ≡ some → 2 ≤ next → cond some (next + count_by is_some basis.state.keepalives + 1) next ≤ next + 9
+    → new ≡ old ++ cond some (segment_items (next + count_by is_some basis.state.keepalives) (slots_items next basis.state.keepalives)) []
+    → Emits (λ age frame. said_of (keepalive_answers basis frame)) (80 * count_by is_some basis.state.keepalives) next (cond some (next + count_by is_some basis.state.keepalives + 1) next) old new
+by_some true basis next old new e le few made = some_emitted basis next (next + count_by is_some basis.state.keepalives) old new e le refl (omega (arith, few)) made
+by_some false basis next old new e le few made =
+    subst (λ (xs : List Item). Emits (λ age frame. said_of (keepalive_answers basis frame)) (80 * count_by is_some basis.state.keepalives) next next old xs) (sym (made ∙ append-nil old)) (none_emitted basis next old e)
+
+pub keepalives_emitted : (basis : Basis) (next to : ℕ) (old new : List Item) → to ≡ label_behind next basis.state.keepalives → 2 ≤ next → to ≤ next + 9 → new ≡ old ++ keepalive_items next basis.state.keepalives
+    → Emits (λ age frame. said_of (keepalive_answers basis frame)) (80 * count_by is_some basis.state.keepalives) next to old new
+keepalives_emitted basis next to old new behind le few made =
+    subst (λ (t : ℕ). Emits (λ age frame. said_of (keepalive_answers basis frame)) (80 * count_by is_some basis.state.keepalives) next t old new) (sym behind)
+    (by_some (list_any is_some basis.state.keepalives) basis next old new refl le (omega (arith, few, behind)) made)

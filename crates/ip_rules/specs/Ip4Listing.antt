@@ -1,6 +1,7 @@
 -- The items of the rules for IPv4 and for keepalives. Headers are those of RFC 791 (IPv4), RFC 768 (UDP), RFC 2131 (DHCP)
 -- and RFC 9293 (TCP).
-use Rattle.std.specs.Prelude.{◌≡◌, ℕ, ◌+◌, ◌<◌, ◌^◌, Bool, true, false, nat_lt, if◌then◌else◌, List, [], ◌∷◌, ◌++◌, length, slice_index, Option, Some, None}
+use Rattle.std.specs.Prelude.{◌≡◌, ℕ, ◌+◌, ◌<◌, ◌^◌, Bool, true, false, nat_lt, if◌then◌else◌, List, [], ◌∷◌, ◌++◌, length, slice_index, Option, Some, None, count_by, is_some}
+use Rattle.std.specs.List.{list_any}
 use Rattle.apf_coding.specs.declared.instruction.Op.TheVariants.{Ldb, Ldh, Ldw, Ldbx, Ldhx, Add, Div, And, Ext, Jeq, Jne, Jset}
 use Rattle.apf_coding.specs.declared.machine.Verdict.TheVariants.{Pass, Drop}
 use Rattle.apf_asm.specs.declared.item.Item.{Item}
@@ -37,9 +38,17 @@ slots_items next [] = []
 slots_items next (None ∷ slots) = slots_items next slots
 slots_items next (Some sent ∷ slots) = answer_items next sent ++ slots_items (next + 1) slots
 
--- other packets than TCP go over all of them. Where there is no keepalive there are no items at all
+-- other packets than TCP go over all of them
 abbrev pub segment_items : ℕ → List Item → List Item
 segment_items over answers = load Ldb 23 ∷ jump_if Jne 6 (targets.Label over) ∷ (answers ++ (items.Label over ∷ []))
+
+-- there are items where a slot holds a keepalive
+abbrev pub keepalive_items : ℕ → List (Option Keepalive) → List Item
+keepalive_items next slots = if list_any is_some slots then segment_items (next + count_by is_some slots) (slots_items next slots) else []
+
+-- the label behind theirs
+abbrev pub label_behind : ℕ → List (Option Keepalive) → ℕ
+label_behind next slots = if list_any is_some slots then next + count_by is_some slots + 1 else next
 
 -- ---- what is asked before
 
@@ -72,6 +81,11 @@ destination_items address =
 abbrev pub filtered_items : Bool → ℕ → List ℕ → Option Address → List Item
 filtered_items true away mac address = dhcp_items away mac ++ destination_items address
 filtered_items false away mac address = []
+
+-- behind what is asked of every frame
+abbrev pub first_items : Basis → ℕ → List Item
+first_items basis label =
+    load Ldh 12 ∷ jump_if Jne 0x800 (targets.Label (label + 1)) ∷ filtered_items basis.state.multicast label basis.config.mac basis.state.address
 
 -- ---- what is asked behind
 

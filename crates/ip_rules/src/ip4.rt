@@ -1,12 +1,12 @@
 //! The rule for IPv4.
 
-ghost use Rattle.std.specs.Prelude.{◌≡◌, ◌+◌, ◌*◌, ◌≤◌, true, IfOk, OnOk, OnErr, count_by, is_some};
+ghost use Rattle.std.specs.Prelude.{◌≡◌, ◌+◌, ◌*◌, ◌≤◌, ◌++◌, true, length, take, IfOk, OnOk, OnErr, count_by, is_some};
 ghost use Rattle.policy_state.specs.Policy.{ip4};
 ghost use Rattle.rule_items.specs.Fragment.{Emits};
 ghost use Rattle.rule_items.specs.Rulings.{said_of};
-ghost use Rattle.ip_rules.specs.Ip4Listing.{dhcp_items, net_items, destination_items, filtered_items, last_items, ip4_items, IsMac, IsInRange};
+ghost use Rattle.ip_rules.specs.Ip4Listing.{keepalive_items, dhcp_items, net_items, destination_items, filtered_items, first_items, last_items, ip4_items, IsMac, IsInRange};
 
-use crate::keepalives::{emit_keepalives, header_into};
+use crate::keepalives::{add_keepalives, header_into, label_behind};
 use apf_asm::{Item, Target};
 use apf_base::{List, OutOfMemory};
 use apf_coding::{Op, Verdict};
@@ -45,31 +45,37 @@ fn dhcp_items(alloc: Global, away: u32, mac: &[u8; 6]) -> Result<List<Item>, Out
 }
 
 /// The net's broadcast address, with the destination in R0.
-fn net_items(alloc: Global, address: Option<Address>) -> Result<List<Item>, OutOfMemory>
-    ensures items { IfOk result (λ xs. xs ≡ net_items address) }
-    ensures fits { IfOk result (λ xs. IsInRange address) }
+fn add_net(alloc: Global, address: Option<Address>, out: &mut List<Item>) -> Result<(), OutOfMemory>
+    ensures ok { OnOk result (out.new ≡ out.old ++ net_items address) }
+    ensures fits { OnOk result (IsInRange address) }
+    ensures err { OnErr result (out.new ≡ out.old) }
 {
     let Some(own) = address else {
-        return Ok(List::new(alloc));
+        return Ok(());
     };
     if own.prefix >= 31 {
-        return Ok(List::new(alloc));
+        return Ok(());
     }
-    List::of(
+    out.append(List::of(
         alloc,
         [
             counting(alloc, Counter::DroppedIpv4BroadcastNet),
             jump_if(alloc, Op::Jeq, own.net_broadcast(), to_end(Verdict::Drop)),
         ],
-    )
+    )?)
 }
 
-/// Multicast and broadcast.
-fn destination_items(alloc: Global, address: Option<Address>) -> Result<List<Item>, OutOfMemory>
-    ensures items { IfOk result (λ xs. xs ≡ destination_items address) }
-    ensures fits { IfOk result (λ xs. IsInRange address) }
+/// Multicast and broadcast. An `Err` leaves a part of the items.
+fn add_destination(
+    alloc: Global,
+    address: Option<Address>,
+    out: &mut List<Item>,
+) -> Result<(), OutOfMemory>
+    ensures ok { OnOk result (out.new ≡ out.old ++ destination_items address) }
+    ensures fits { OnOk result (IsInRange address) }
+    ensures err { OnErr result (take (length out.old) out.new ≡ out.old) }
 {
-    let mut items = List::of(
+    out.append(List::of(
         alloc,
         [
             load(alloc, Op::Ldb, 30),
@@ -80,40 +86,47 @@ fn destination_items(alloc: Global, address: Option<Address>) -> Result<List<Ite
             counting(alloc, Counter::DroppedIpv4BroadcastAddr),
             jump_if(alloc, Op::Jeq, 0xffff_ffff, to_end(Verdict::Drop)),
         ],
-    )?;
-    items.append(net_items(alloc, address)?)?;
-    Ok(items)
+    )?)?;
+    add_net(alloc, address, out)
 }
 
-/// What is asked before the keepalives, where multicast is filtered.
-fn filtered_items(alloc: Global, away: u32, basis: &Basis) -> Result<List<Item>, OutOfMemory>
-    ensures items { IfOk result (λ xs. xs ≡ filtered_items basis.now.state.multicast away basis.now.config.mac basis.now.state.address) }
-    ensures mac { IfOk result (λ xs. basis.now.state.multicast ≡ true → IsMac basis.now.config.mac) }
-    ensures address { IfOk result (λ xs. basis.now.state.multicast ≡ true → IsInRange basis.now.state.address) }
+/// What is asked before the keepalives, where multicast is filtered. An `Err` leaves a part of the items.
+#[tactic(auto, using(crate::proofs::Kept::kept))]
+fn add_filtered(
+    alloc: Global,
+    away: u32,
+    basis: &Basis,
+    out: &mut List<Item>,
+) -> Result<(), OutOfMemory>
+    ensures ok { OnOk result (out.new ≡ out.old ++ filtered_items basis.now.state.multicast away basis.now.config.mac basis.now.state.address) }
+    ensures mac { OnOk result (basis.now.state.multicast ≡ true → IsMac basis.now.config.mac) }
+    ensures address { OnOk result (basis.now.state.multicast ≡ true → IsInRange basis.now.state.address) }
+    ensures err { OnErr result (take (length out.old) out.new ≡ out.old) }
 {
     if !basis.state.multicast {
-        return Ok(List::new(alloc));
+        return Ok(());
     }
-    let mut items = dhcp_items(alloc, away, &basis.config.mac)?;
-    items.append(destination_items(alloc, basis.state.address)?)?;
-    Ok(items)
+    out.append(dhcp_items(alloc, away, &basis.config.mac)?)?;
+    add_destination(alloc, basis.state.address, out)?;
+    Ok(())
 }
 
 /// What is asked behind the keepalives.
-fn last_items(alloc: Global, multicast: bool) -> Result<List<Item>, OutOfMemory>
-    ensures { IfOk result (λ xs. xs ≡ last_items multicast) }
+fn add_last(alloc: Global, multicast: bool, out: &mut List<Item>) -> Result<(), OutOfMemory>
+    ensures ok { OnOk result (out.new ≡ out.old ++ last_items multicast) }
+    ensures err { OnErr result (out.new ≡ out.old) }
 {
     if !multicast {
-        return List::of(
+        return out.append(List::of(
             alloc,
             [
                 counting(alloc, Counter::PassedIpv4),
                 jump(alloc, to_end(Verdict::Pass)),
             ],
-        );
+        )?);
     }
     let unicast = jump_unless(alloc, &BROADCAST, to_end(Verdict::Pass))?;
-    List::of(
+    out.append(List::of(
         alloc,
         [
             place(alloc, 0),
@@ -122,34 +135,54 @@ fn last_items(alloc: Global, multicast: bool) -> Result<List<Item>, OutOfMemory>
             counting(alloc, Counter::DroppedIpv4L2Broadcast),
             jump(alloc, to_end(Verdict::Drop)),
         ],
-    )
+    )?)
 }
 
-/// The whole fragment, round the items for keepalives. Other frames go over the packet.
-fn ip4_items(
+/// What is asked of every frame, and what is asked before the keepalives. An `Err` leaves a part of the items.
+#[tactic(auto, using(crate::proofs::Kept::kept))]
+fn add_first(
     alloc: Global,
-    basis: &Basis,
     label: u32,
-    keepalives: List<Item>,
-) -> Result<List<Item>, OutOfMemory>
+    basis: &Basis,
+    out: &mut List<Item>,
+) -> Result<(), OutOfMemory>
     requires { label ≤ 2000000 }
-    ensures items { IfOk result (λ xs. xs ≡ ip4_items basis.now label keepalives) }
-    ensures mac { IfOk result (λ xs. basis.now.state.multicast ≡ true → IsMac basis.now.config.mac) }
-    ensures address { IfOk result (λ xs. basis.now.state.multicast ≡ true → IsInRange basis.now.state.address) }
+    ensures ok { OnOk result (out.new ≡ out.old ++ first_items basis.now label) }
+    ensures mac { OnOk result (basis.now.state.multicast ≡ true → IsMac basis.now.config.mac) }
+    ensures address { OnOk result (basis.now.state.multicast ≡ true → IsInRange basis.now.state.address) }
+    ensures err { OnErr result (take (length out.old) out.new ≡ out.old) }
 {
-    let mut packet = filtered_items(alloc, label, basis)?;
-    packet.append(keepalives)?;
-    packet.append(last_items(alloc, basis.state.multicast)?)?;
-    let mut items = List::of(
+    out.append(List::of(
         alloc,
         [
             load(alloc, Op::Ldh, 12),
             jump_if(alloc, Op::Jne, 0x800, Target::Label(label + 1)),
         ],
-    )?;
-    items.append(packet)?;
-    items.push(Item::Label(label + 1))?;
-    Ok(items)
+    )?)?;
+    add_filtered(alloc, label, basis, out)?;
+    Ok(())
+}
+
+/// The whole fragment, round the items for keepalives. Other frames go over the packet. An `Err` leaves a part of the items.
+#[tactic(auto, using(crate::proofs::Kept::kept))]
+fn add_ip4(
+    alloc: Global,
+    basis: &Basis,
+    next: u32,
+    label: u32,
+    out: &mut List<Item>,
+) -> Result<(), OutOfMemory>
+    requires next { next ≤ 1000000 }
+    requires label { label ≤ 2000000 }
+    ensures ok { OnOk result (out.new ≡ out.old ++ ip4_items basis.now label (keepalive_items next basis.now.state.keepalives)) }
+    ensures mac { OnOk result (basis.now.state.multicast ≡ true → IsMac basis.now.config.mac) }
+    ensures address { OnOk result (basis.now.state.multicast ≡ true → IsInRange basis.now.state.address) }
+    ensures err { OnErr result (take (length out.old) out.new ≡ out.old) }
+{
+    add_first(alloc, label, basis, out)?;
+    add_keepalives(alloc, basis, next, out)?;
+    add_last(alloc, basis.state.multicast, out)?;
+    out.push(Item::Label(label + 1))
 }
 
 /// Appends the question on IPv4 (RFC 791). It draws at most eleven labels.
@@ -167,10 +200,12 @@ pub fn emit_ip4(
     ensures err { OnErr result (out.new ≡ out.old) }
     ensures next { OnErr result (next.new ≡ next.old) }
 {
-    let mut label = *next;
-    let mut keepalives = List::new(alloc);
-    emit_keepalives(alloc, basis, &mut label, &mut keepalives)?;
-    out.append(ip4_items(alloc, basis, label, keepalives)?)?;
+    let label = label_behind(*next, &basis.state);
+    let before = out.len();
+    let Ok(()) = add_ip4(alloc, basis, *next, label, out) else {
+        out.truncate(before);
+        return Err(OutOfMemory);
+    };
     *next = label + 2;
     Ok(())
 }

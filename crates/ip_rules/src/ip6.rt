@@ -1,6 +1,6 @@
 //! The rule for IPv6.
 
-ghost use Rattle.std.specs.Prelude.{◌≡◌, ◌+◌, ◌≤◌, IfOk, OnOk, OnErr};
+ghost use Rattle.std.specs.Prelude.{◌≡◌, ◌+◌, ◌≤◌, ◌++◌, length, take, OnOk, OnErr};
 ghost use Rattle.policy_state.specs.Ip6.{ip6_header_lines};
 ghost use Rattle.rule_items.specs.Fragment.{Emits};
 ghost use Rattle.rule_items.specs.Rulings.{said_of};
@@ -28,10 +28,11 @@ const ROUTER_SOLICITATION: u32 = 133;
 const NEIGHBOR_ADVERTISEMENT: u32 = 136;
 
 /// Whether a packet is multicast.
-fn destination_items(alloc: Global) -> Result<List<Item>, OutOfMemory>
-    ensures { IfOk result (λ xs. xs ≡ destination_items) }
+fn add_destination(alloc: Global, out: &mut List<Item>) -> Result<(), OutOfMemory>
+    ensures ok { OnOk result (out.new ≡ out.old ++ destination_items) }
+    ensures err { OnErr result (out.new ≡ out.old) }
 {
-    List::of(
+    out.append(List::of(
         alloc,
         [
             counting(alloc, Counter::DroppedIpv6Multicast),
@@ -40,15 +41,16 @@ fn destination_items(alloc: Global) -> Result<List<Item>, OutOfMemory>
             counting(alloc, Counter::PassedIpv6UnicastNonIcmp),
             jump(alloc, to_end(Verdict::Pass)),
         ],
-    )
+    )?)
 }
 
 /// ICMPv6 messages. Those that aren't answered go over what is asked of advertisements.
-fn message_items(alloc: Global, over: u32) -> Result<List<Item>, OutOfMemory>
-    ensures { IfOk result (λ xs. xs ≡ message_items over) }
+fn add_message(alloc: Global, over: u32, out: &mut List<Item>) -> Result<(), OutOfMemory>
+    ensures ok { OnOk result (out.new ≡ out.old ++ message_items over) }
+    ensures err { OnErr result (out.new ≡ out.old) }
 {
     let other = jump_unless(alloc, &ALL_NODES, Target::Label(over))?;
-    List::of(
+    out.append(List::of(
         alloc,
         [
             load(alloc, Op::Ldb, 54),
@@ -61,52 +63,59 @@ fn message_items(alloc: Global, over: u32) -> Result<List<Item>, OutOfMemory>
             jump(alloc, to_end(Verdict::Drop)),
             Item::Label(over),
         ],
-    )
+    )?)
 }
 
-/// Where multicast isn't filtered.
-fn unfiltered_items(alloc: Global, over: u32) -> Result<List<Item>, OutOfMemory>
-    ensures { IfOk result (λ xs. xs ≡ unfiltered_items over) }
+/// Where multicast isn't filtered. An `Err` leaves a part of the items.
+fn add_unfiltered(alloc: Global, over: u32, out: &mut List<Item>) -> Result<(), OutOfMemory>
+    ensures ok { OnOk result (out.new ≡ out.old ++ unfiltered_items over) }
+    ensures err { OnErr result (take (length out.old) out.new ≡ out.old) }
 {
-    let mut items = List::of(
+    out.append(List::of(
         alloc,
         [
             load(alloc, Op::Ldb, 20),
             counting(alloc, Counter::PassedIpv6NonIcmp),
             jump_if(alloc, Op::Jne, ICMP6, to_end(Verdict::Pass)),
         ],
-    )?;
-    items.append(message_items(alloc, over)?)?;
-    Ok(items)
+    )?)?;
+    add_message(alloc, over, out)
 }
 
-/// Where it is: ICMPv6 messages go over what is asked of the destination.
-fn filtered_items(alloc: Global, message: u32, over: u32) -> Result<List<Item>, OutOfMemory>
-    ensures { IfOk result (λ xs. xs ≡ filtered_items message over) }
+/// Where it is: ICMPv6 messages go over what is asked of the destination. An `Err` leaves a part of the items.
+fn add_filtered(
+    alloc: Global,
+    message: u32,
+    over: u32,
+    out: &mut List<Item>,
+) -> Result<(), OutOfMemory>
+    ensures ok { OnOk result (out.new ≡ out.old ++ filtered_items message over) }
+    ensures err { OnErr result (take (length out.old) out.new ≡ out.old) }
 {
-    let mut items = List::of(
+    out.append(List::of(
         alloc,
         [
             load(alloc, Op::Ldb, 20),
             jump_if(alloc, Op::Jeq, ICMP6, Target::Label(message)),
         ],
-    )?;
-    items.append(destination_items(alloc)?)?;
-    items.push(Item::Label(message))?;
-    items.append(message_items(alloc, over)?)?;
-    Ok(items)
+    )?)?;
+    add_destination(alloc, out)?;
+    out.push(Item::Label(message))?;
+    add_message(alloc, over, out)
 }
 
-/// Where the host dozes as well: ICMPv6 messages but echo requests go over it.
-fn dozing_items(
+/// Where the host dozes as well: ICMPv6 messages but echo requests go over it. An `Err` leaves a part of the items.
+fn add_dozing(
     alloc: Global,
     destination: u32,
     message: u32,
     over: u32,
-) -> Result<List<Item>, OutOfMemory>
-    ensures { IfOk result (λ xs. xs ≡ dozing_items destination message over) }
+    out: &mut List<Item>,
+) -> Result<(), OutOfMemory>
+    ensures ok { OnOk result (out.new ≡ out.old ++ dozing_items destination message over) }
+    ensures err { OnErr result (take (length out.old) out.new ≡ out.old) }
 {
-    let mut items = List::of(
+    out.append(List::of(
         alloc,
         [
             load(alloc, Op::Ldb, 20),
@@ -115,22 +124,22 @@ fn dozing_items(
             jump_if(alloc, Op::Jne, ECHO_REQUEST, Target::Label(message)),
             Item::Label(destination),
         ],
-    )?;
-    items.append(destination_items(alloc)?)?;
-    items.push(Item::Label(message))?;
-    items.append(message_items(alloc, over)?)?;
-    Ok(items)
+    )?)?;
+    add_destination(alloc, out)?;
+    out.push(Item::Label(message))?;
+    add_message(alloc, over, out)
 }
 
-/// The whole fragment.
-fn ip6_items(alloc: Global, basis: &Basis, next: u32) -> Result<List<Item>, OutOfMemory>
+/// The whole fragment. An `Err` leaves a part of the items.
+fn add_ip6(alloc: Global, basis: &Basis, next: u32, out: &mut List<Item>) -> Result<(), OutOfMemory>
     requires { next ≤ 1000000 }
-    ensures { IfOk result (λ xs. xs ≡ ip6_items basis.now next) }
+    ensures ok { OnOk result (out.new ≡ out.old ++ ip6_items basis.now next) }
+    ensures err { OnErr result (take (length out.old) out.new ≡ out.old) }
 {
     match (basis.state.multicast, basis.state.doze) {
-        (false, _) => unfiltered_items(alloc, next),
-        (true, false) => filtered_items(alloc, next + 1, next),
-        (true, true) => dozing_items(alloc, next + 2, next + 1, next),
+        (false, _) => add_unfiltered(alloc, next, out),
+        (true, false) => add_filtered(alloc, next + 1, next, out),
+        (true, true) => add_dozing(alloc, next + 2, next + 1, next, out),
     }
 }
 
@@ -150,7 +159,11 @@ pub fn emit_ip6(
     ensures err { OnErr result (out.new ≡ out.old) }
     ensures next { OnErr result (next.new ≡ next.old) }
 {
-    out.append(ip6_items(alloc, basis, *next)?)?;
+    let before = out.len();
+    let Ok(()) = add_ip6(alloc, basis, *next, out) else {
+        out.truncate(before);
+        return Err(OutOfMemory);
+    };
     *next += 3;
     Ok(())
 }

@@ -1,16 +1,16 @@
 //! The rule for answers to keepalives.
 
-ghost use Rattle.std.specs.Prelude.{◌≡◌, ◌+◌, ◌*◌, ◌≤◌, IfOk, OnOk, OnErr, length, count_by, is_some};
+ghost use Rattle.std.specs.Prelude.{◌≡◌, ◌+◌, ◌*◌, ◌≤◌, ◌++◌, IfOk, OnOk, OnErr, length, take, count_by, is_some};
 ghost use Rattle.policy_state.specs.Ip4.{keepalive_answers};
 ghost use Rattle.rule_items.specs.Fragment.{Emits};
 ghost use Rattle.rule_items.specs.Rulings.{said_of};
-ghost use Rattle.ip_rules.specs.Ip4Listing.{header_into, answer_items, slots_items, segment_items};
+ghost use Rattle.ip_rules.specs.Ip4Listing.{header_into, answer_items, slots_items, segment_items, keepalive_items, label_behind};
 
 use apf_asm::{Item, Target};
 use apf_base::{List, OutOfMemory};
 use apf_coding::{Op, Verdict};
 use data_counters::Counter;
-use policy_state::{Basis, Keepalive};
+use policy_state::{Basis, FilterState, Keepalive};
 use rule_items::{counting, fixed, jump, jump_if, jump_if_r1, jump_unless, load, place, to_end};
 use std::alloc::Global;
 
@@ -48,42 +48,92 @@ fn answer_items(alloc: Global, away: u32, sent: &Keepalive) -> Result<List<Item>
     )
 }
 
-/// Answers to all keepalives, slot by slot, and the label behind theirs.
-fn slots_items(
+/// Answers to all keepalives, slot by slot. An `Err` leaves a part of the items.
+fn add_answers(
     alloc: Global,
     next: u32,
     slots: &[Option<Keepalive>; 8],
-) -> Result<(List<Item>, u32), OutOfMemory>
+    out: &mut List<Item>,
+) -> Result<(), OutOfMemory>
     requires { next ≤ 1000000 }
-    ensures items { IfOk result (λ made. made.0 ≡ slots_items next slots.now) }
-    ensures label { IfOk result (λ made. made.1 ≡ next + count_by is_some slots.now) }
-    ensures few { IfOk result (λ made. made.1 ≤ next + 8) }
+    ensures ok { OnOk result (out.new ≡ out.old ++ slots_items next slots.now) }
+    ensures err { OnErr result (take (length out.old) out.new ≡ out.old) }
 {
     let mut label = next;
-    let mut items = List::new(alloc);
     for slot in slots {
         if let Some(sent) = slot {
-            items.append(answer_items(alloc, label, sent)?)?;
+            out.append(answer_items(alloc, label, sent)?)?;
             label += 1;
         }
     }
-    Ok((items, label))
+    Ok(())
 }
 
-/// Other packets than TCP go over the answers.
-fn segment_items(alloc: Global, over: u32, answers: List<Item>) -> Result<List<Item>, OutOfMemory>
-    ensures { IfOk result (λ xs. xs ≡ segment_items over answers) }
+/// How many slots hold a keepalive.
+fn count_keepalives(slots: &[Option<Keepalive>; 8]) -> u32
+    ensures value { result ≡ count_by is_some slots.now }
+    ensures most { result ≤ 8 }
 {
-    let mut items = List::of(
+    let mut count = 0;
+    for slot in slots {
+        if slot.is_some() {
+            count += 1;
+        }
+    }
+    count
+}
+
+/// The label behind those of all keepalives, each of which has one, and one is behind them all.
+pub(crate) fn label_behind(next: u32, state: &FilterState) -> u32
+    requires { next ≤ 1000000 }
+    ensures value { result ≡ label_behind next state.now.keepalives }
+    ensures few { result ≤ next + 9 }
+{
+    if !state.holds_keepalive() {
+        return next;
+    }
+    next + count_keepalives(&state.keepalives) + 1
+}
+
+/// Answers to all keepalives. Other packets than TCP go over them. An `Err` leaves a part of the items.
+#[tactic(auto, using(crate::proofs::Kept::kept))]
+fn add_segment(
+    alloc: Global,
+    next: u32,
+    slots: &[Option<Keepalive>; 8],
+    out: &mut List<Item>,
+) -> Result<(), OutOfMemory>
+    requires { next ≤ 1000000 }
+    ensures ok { OnOk result (out.new ≡ out.old ++ segment_items (next + count_by is_some slots.now) (slots_items next slots.now)) }
+    ensures err { OnErr result (take (length out.old) out.new ≡ out.old) }
+{
+    let over = next + count_keepalives(slots);
+    out.append(List::of(
         alloc,
         [
             load(alloc, Op::Ldb, 23),
             jump_if(alloc, Op::Jne, 6, Target::Label(over)),
         ],
-    )?;
-    items.append(answers)?;
-    items.push(Item::Label(over))?;
-    Ok(items)
+    )?)?;
+    add_answers(alloc, next, slots, out)?;
+    out.push(Item::Label(over))
+}
+
+/// The whole fragment, which is empty where there is no keepalive. An `Err` leaves a part of the items.
+pub(crate) fn add_keepalives(
+    alloc: Global,
+    basis: &Basis,
+    next: u32,
+    out: &mut List<Item>,
+) -> Result<(), OutOfMemory>
+    requires { next ≤ 1000000 }
+    ensures ok { OnOk result (out.new ≡ out.old ++ keepalive_items next basis.now.state.keepalives) }
+    ensures err { OnErr result (take (length out.old) out.new ≡ out.old) }
+{
+    if !basis.state.holds_keepalive() {
+        return Ok(());
+    }
+    add_segment(alloc, next, &basis.state.keepalives, out)
 }
 
 /// Appends the question on answers to keepalives (RFC 9293, section 3.8.4), for every frame whose ethertype is that of IPv4.
@@ -103,11 +153,11 @@ pub fn emit_keepalives(
     ensures err { OnErr result (out.new ≡ out.old) }
     ensures next { OnErr result (next.new ≡ next.old) }
 {
-    if !basis.state.holds_keepalive() {
-        return Ok(());
-    }
-    let (answers, over) = slots_items(alloc, *next, &basis.state.keepalives)?;
-    out.append(segment_items(alloc, over, answers)?)?;
-    *next = over + 1;
+    let before = out.len();
+    let Ok(()) = add_keepalives(alloc, basis, *next, out) else {
+        out.truncate(before);
+        return Err(OutOfMemory);
+    };
+    *next = label_behind(*next, &basis.state);
     Ok(())
 }
