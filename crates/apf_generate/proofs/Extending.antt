@@ -5,7 +5,7 @@ use Rattle.std.proofs.lemmas.List.{take-append-drop}
 use Rattle.apf_asm.specs.declared.item.Item.{Item}
 use Rattle.apf_generate.specs.Extending.{Extends}
 
-pub extends_added : (old added new : List Item) → new ≡ old ++ added → Extends old new
+extends_added : (old added new : List Item) → new ≡ old ++ added → Extends old new
 extends_added old added new e = rw e (take-append_seam old added)
 
 -- what was added before the stop counts too
