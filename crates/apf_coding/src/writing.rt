@@ -10,6 +10,7 @@ use apf_base::{List, OutOfMemory};
 use std::alloc::Global;
 
 /// Appends the big-endian bytes of a number.
+#[inline(always)]
 fn append_number(out: &mut List<u8>, width: u8, n: u32) -> Result<(), OutOfMemory>
     requires width { IsWidth width }
     requires fits { Holds width n }

@@ -2,7 +2,6 @@ pub mod AnyProgram
 pub mod Chosen
 pub mod Ends
 pub mod Existing
-pub mod Extending
 pub mod Generated
 pub mod Ip6Question
 pub mod Joined

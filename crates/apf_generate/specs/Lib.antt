@@ -4,4 +4,3 @@ pub mod Program
 pub mod Sizes
 pub mod RaListing
 pub mod Ranges
-pub mod Extending

@@ -8,7 +8,7 @@ ghost use Rattle.policy_state.specs.Records.{advertised_again};
 ghost use Rattle.rule_items.specs.Fragment.{Emits};
 ghost use Rattle.rule_items.specs.Rulings.{said_of};
 ghost use Rattle.apf_generate.specs.Program.{AddsRecords};
-ghost use Rattle.apf_generate.specs.Extending.{Extends};
+ghost use Rattle.apf_coding.specs.Writing.{Extends};
 ghost use Rattle.apf_generate.specs.RaListing.{section_items, lifetime_items, ra_items};
 
 use apf_asm::{Item, Target};

@@ -1,5 +1,4 @@
 pub mod ArpRuling
 pub mod Emitted
-pub mod Kept
 pub mod LinkRuling
 pub mod Sound

@@ -1,6 +1,7 @@
 //! The rule for ARP.
 
-ghost use Rattle.std.specs.Prelude.{◌≡◌, ◌+◌, ◌≤◌, ◌++◌, length, take, OnOk, OnErr};
+ghost use Rattle.std.specs.Prelude.{◌≡◌, ◌+◌, ◌≤◌, ◌++◌, OnOk, OnErr};
+ghost use Rattle.apf_coding.specs.Writing.{Extends};
 ghost use Rattle.policy_state.specs.Policy.{arp};
 ghost use Rattle.rule_items.specs.Fragment.{Emits};
 ghost use Rattle.arp_rules.specs.Listing.{reply_items, target_items, packet_items, arp_items, IsInRange};
@@ -76,7 +77,7 @@ fn add_packet(
 ) -> Result<(), OutOfMemory>
     ensures ok { OnOk result (out.new ≡ out.old ++ packet_items request address) }
     ensures fits { OnOk result (IsInRange address) }
-    ensures err { OnErr result (take (length out.old) out.new ≡ out.old) }
+    ensures err { OnErr result (Extends out.old out.new) }
 {
     let other = jump_unless(alloc, &ETHERNET_AND_IPV4, to_end(Verdict::Pass))?;
     out.append(List::of(
@@ -95,7 +96,7 @@ fn add_packet(
 }
 
 /// The whole fragment. Other frames go over the packet. An `Err` leaves a part of the items.
-#[tactic(auto, using(crate::proofs::Kept::kept))]
+#[tactic(auto, using(apf_coding::proofs::Appends::extends_more))]
 fn add_arp(
     alloc: Global,
     next: u32,
@@ -105,7 +106,7 @@ fn add_arp(
     requires { next ≤ 1000000 }
     ensures ok { OnOk result (out.new ≡ out.old ++ arp_items next address) }
     ensures fits { OnOk result (IsInRange address) }
-    ensures err { OnErr result (take (length out.old) out.new ≡ out.old) }
+    ensures err { OnErr result (Extends out.old out.new) }
 {
     out.append(List::of(
         alloc,

@@ -1,6 +1,7 @@
 //! The rule for the Ethernet header.
 
-ghost use Rattle.std.specs.Prelude.{◌≡◌, ◌+◌, ◌*◌, ◌≤◌, ◌<◌, ◌^◌, ◌∷◌, ◌++◌, length, take, All, OnOk, OnErr};
+ghost use Rattle.std.specs.Prelude.{◌≡◌, ◌+◌, ◌*◌, ◌≤◌, ◌<◌, ◌^◌, ◌∷◌, ◌++◌, length, All, OnOk, OnErr};
+ghost use Rattle.apf_coding.specs.Writing.{Extends};
 ghost use Rattle.apf_coding.specs.declared.instruction.Op.TheVariants.{Ldh};
 ghost use Rattle.policy_state.specs.Policy.{link};
 ghost use Rattle.rule_items.specs.Building.{load};
@@ -20,7 +21,7 @@ use std::alloc::Global;
 fn add_denied(alloc: Global, deny: &[u16], out: &mut List<Item>) -> Result<(), OutOfMemory>
     ensures ok { OnOk result (out.new ≡ out.old ++ denied_items deny.now) }
     ensures fits { OnOk result (All (λ d. d < 2 ^ 16) deny.now) }
-    ensures err { OnErr result (take (length out.old) out.new ≡ out.old) }
+    ensures err { OnErr result (Extends out.old out.new) }
 {
     out.push(counting(alloc, Counter::DroppedEthertypeDenied))?;
     for denied in deny {
@@ -32,7 +33,7 @@ fn add_denied(alloc: Global, deny: &[u16], out: &mut List<Item>) -> Result<(), O
 /// The ethertype, and 802.3 frames where they are dropped. An `Err` leaves a part of the items.
 fn add_length(alloc: Global, drops: bool, out: &mut List<Item>) -> Result<(), OutOfMemory>
     ensures ok { OnOk result (out.new ≡ out.old ++ load Ldh 12 ∷ length_items drops) }
-    ensures err { OnErr result (take (length out.old) out.new ≡ out.old) }
+    ensures err { OnErr result (Extends out.old out.new) }
 {
     out.push(load(alloc, Op::Ldh, 12))?;
     if drops {
@@ -43,11 +44,11 @@ fn add_length(alloc: Global, drops: bool, out: &mut List<Item>) -> Result<(), Ou
 }
 
 /// The whole fragment. An `Err` leaves a part of the items.
-#[tactic(auto, using(crate::proofs::Kept::kept))]
+#[tactic(auto, using(apf_coding::proofs::Appends::extends_more))]
 fn add_link(alloc: Global, basis: &Basis, out: &mut List<Item>) -> Result<(), OutOfMemory>
     ensures ok { OnOk result (out.new ≡ out.old ++ link_items basis.now) }
     ensures fits { OnOk result (All (λ d. d < 2 ^ 16) basis.now.config.deny) }
-    ensures err { OnErr result (take (length out.old) out.new ≡ out.old) }
+    ensures err { OnErr result (Extends out.old out.new) }
 {
     add_length(alloc, basis.config.drop_802_3, out)?;
     add_denied(alloc, basis.config.deny.as_slice(), out)?;

@@ -8,5 +8,4 @@ pub mod Ip6Sound
 pub mod KeepaliveForm
 pub mod KeepaliveRuling
 pub mod KeepalivesEmitted
-pub mod Kept
 pub mod Over

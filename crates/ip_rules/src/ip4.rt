@@ -1,6 +1,7 @@
 //! The rule for IPv4.
 
-ghost use Rattle.std.specs.Prelude.{◌≡◌, ◌+◌, ◌*◌, ◌≤◌, ◌++◌, true, length, take, IfOk, OnOk, OnErr, count_by, is_some};
+ghost use Rattle.std.specs.Prelude.{◌≡◌, ◌+◌, ◌*◌, ◌≤◌, ◌++◌, true, IfOk, OnOk, OnErr, count_by, is_some};
+ghost use Rattle.apf_coding.specs.Writing.{Extends};
 ghost use Rattle.policy_state.specs.Policy.{ip4};
 ghost use Rattle.rule_items.specs.Fragment.{Emits};
 ghost use Rattle.rule_items.specs.Rulings.{said_of};
@@ -73,7 +74,7 @@ fn add_destination(
 ) -> Result<(), OutOfMemory>
     ensures ok { OnOk result (out.new ≡ out.old ++ destination_items address) }
     ensures fits { OnOk result (IsInRange address) }
-    ensures err { OnErr result (take (length out.old) out.new ≡ out.old) }
+    ensures err { OnErr result (Extends out.old out.new) }
 {
     out.append(List::of(
         alloc,
@@ -91,7 +92,7 @@ fn add_destination(
 }
 
 /// What is asked before the keepalives, where multicast is filtered. An `Err` leaves a part of the items.
-#[tactic(auto, using(crate::proofs::Kept::kept))]
+#[tactic(auto, using(apf_coding::proofs::Appends::extends_more))]
 fn add_filtered(
     alloc: Global,
     away: u32,
@@ -101,7 +102,7 @@ fn add_filtered(
     ensures ok { OnOk result (out.new ≡ out.old ++ filtered_items basis.now.state.multicast away basis.now.config.mac basis.now.state.address) }
     ensures mac { OnOk result (basis.now.state.multicast ≡ true → IsMac basis.now.config.mac) }
     ensures address { OnOk result (basis.now.state.multicast ≡ true → IsInRange basis.now.state.address) }
-    ensures err { OnErr result (take (length out.old) out.new ≡ out.old) }
+    ensures err { OnErr result (Extends out.old out.new) }
 {
     if !basis.state.multicast {
         return Ok(());
@@ -139,7 +140,7 @@ fn add_last(alloc: Global, multicast: bool, out: &mut List<Item>) -> Result<(), 
 }
 
 /// What is asked of every frame, and what is asked before the keepalives. An `Err` leaves a part of the items.
-#[tactic(auto, using(crate::proofs::Kept::kept))]
+#[tactic(auto, using(apf_coding::proofs::Appends::extends_more))]
 fn add_first(
     alloc: Global,
     label: u32,
@@ -150,7 +151,7 @@ fn add_first(
     ensures ok { OnOk result (out.new ≡ out.old ++ first_items basis.now label) }
     ensures mac { OnOk result (basis.now.state.multicast ≡ true → IsMac basis.now.config.mac) }
     ensures address { OnOk result (basis.now.state.multicast ≡ true → IsInRange basis.now.state.address) }
-    ensures err { OnErr result (take (length out.old) out.new ≡ out.old) }
+    ensures err { OnErr result (Extends out.old out.new) }
 {
     out.append(List::of(
         alloc,
@@ -164,7 +165,7 @@ fn add_first(
 }
 
 /// The whole fragment, round the items for keepalives. Other frames go over the packet. An `Err` leaves a part of the items.
-#[tactic(auto, using(crate::proofs::Kept::kept))]
+#[tactic(auto, using(apf_coding::proofs::Appends::extends_more))]
 fn add_ip4(
     alloc: Global,
     basis: &Basis,
@@ -177,7 +178,7 @@ fn add_ip4(
     ensures ok { OnOk result (out.new ≡ out.old ++ ip4_items basis.now label (keepalive_items next basis.now.state.keepalives)) }
     ensures mac { OnOk result (basis.now.state.multicast ≡ true → IsMac basis.now.config.mac) }
     ensures address { OnOk result (basis.now.state.multicast ≡ true → IsInRange basis.now.state.address) }
-    ensures err { OnErr result (take (length out.old) out.new ≡ out.old) }
+    ensures err { OnErr result (Extends out.old out.new) }
 {
     add_first(alloc, label, basis, out)?;
     add_keepalives(alloc, basis, next, out)?;

@@ -1,6 +1,7 @@
 //! The rule for IPv6.
 
-ghost use Rattle.std.specs.Prelude.{◌≡◌, ◌+◌, ◌≤◌, ◌++◌, length, take, OnOk, OnErr};
+ghost use Rattle.std.specs.Prelude.{◌≡◌, ◌+◌, ◌≤◌, ◌++◌, OnOk, OnErr};
+ghost use Rattle.apf_coding.specs.Writing.{Extends};
 ghost use Rattle.policy_state.specs.Ip6.{ip6_header_lines};
 ghost use Rattle.rule_items.specs.Fragment.{Emits};
 ghost use Rattle.rule_items.specs.Rulings.{said_of};
@@ -69,7 +70,7 @@ fn add_message(alloc: Global, over: u32, out: &mut List<Item>) -> Result<(), Out
 /// Where multicast isn't filtered. An `Err` leaves a part of the items.
 fn add_unfiltered(alloc: Global, over: u32, out: &mut List<Item>) -> Result<(), OutOfMemory>
     ensures ok { OnOk result (out.new ≡ out.old ++ unfiltered_items over) }
-    ensures err { OnErr result (take (length out.old) out.new ≡ out.old) }
+    ensures err { OnErr result (Extends out.old out.new) }
 {
     out.append(List::of(
         alloc,
@@ -90,7 +91,7 @@ fn add_filtered(
     out: &mut List<Item>,
 ) -> Result<(), OutOfMemory>
     ensures ok { OnOk result (out.new ≡ out.old ++ filtered_items message over) }
-    ensures err { OnErr result (take (length out.old) out.new ≡ out.old) }
+    ensures err { OnErr result (Extends out.old out.new) }
 {
     out.append(List::of(
         alloc,
@@ -113,7 +114,7 @@ fn add_dozing(
     out: &mut List<Item>,
 ) -> Result<(), OutOfMemory>
     ensures ok { OnOk result (out.new ≡ out.old ++ dozing_items destination message over) }
-    ensures err { OnErr result (take (length out.old) out.new ≡ out.old) }
+    ensures err { OnErr result (Extends out.old out.new) }
 {
     out.append(List::of(
         alloc,
@@ -134,7 +135,7 @@ fn add_dozing(
 fn add_ip6(alloc: Global, basis: &Basis, next: u32, out: &mut List<Item>) -> Result<(), OutOfMemory>
     requires { next ≤ 1000000 }
     ensures ok { OnOk result (out.new ≡ out.old ++ ip6_items basis.now next) }
-    ensures err { OnErr result (take (length out.old) out.new ≡ out.old) }
+    ensures err { OnErr result (Extends out.old out.new) }
 {
     match (basis.state.multicast, basis.state.doze) {
         (false, _) => add_unfiltered(alloc, next, out),

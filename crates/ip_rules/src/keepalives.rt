@@ -1,6 +1,7 @@
 //! The rule for answers to keepalives.
 
-ghost use Rattle.std.specs.Prelude.{◌≡◌, ◌+◌, ◌*◌, ◌≤◌, ◌++◌, IfOk, OnOk, OnErr, length, take, count_by, is_some};
+ghost use Rattle.std.specs.Prelude.{◌≡◌, ◌+◌, ◌*◌, ◌≤◌, ◌++◌, IfOk, OnOk, OnErr, count_by, is_some};
+ghost use Rattle.apf_coding.specs.Writing.{Extends};
 ghost use Rattle.policy_state.specs.Ip4.{keepalive_answers};
 ghost use Rattle.rule_items.specs.Fragment.{Emits};
 ghost use Rattle.rule_items.specs.Rulings.{said_of};
@@ -57,7 +58,7 @@ fn add_answers(
 ) -> Result<(), OutOfMemory>
     requires { next ≤ 1000000 }
     ensures ok { OnOk result (out.new ≡ out.old ++ slots_items next slots.now) }
-    ensures err { OnErr result (take (length out.old) out.new ≡ out.old) }
+    ensures err { OnErr result (Extends out.old out.new) }
 {
     let mut label = next;
     for slot in slots {
@@ -96,7 +97,7 @@ pub(crate) fn label_behind(next: u32, state: &FilterState) -> u32
 }
 
 /// Answers to all keepalives. Other packets than TCP go over them. An `Err` leaves a part of the items.
-#[tactic(auto, using(crate::proofs::Kept::kept))]
+#[tactic(auto, using(apf_coding::proofs::Appends::extends_more))]
 fn add_segment(
     alloc: Global,
     next: u32,
@@ -105,7 +106,7 @@ fn add_segment(
 ) -> Result<(), OutOfMemory>
     requires { next ≤ 1000000 }
     ensures ok { OnOk result (out.new ≡ out.old ++ segment_items (next + count_by is_some slots.now) (slots_items next slots.now)) }
-    ensures err { OnErr result (take (length out.old) out.new ≡ out.old) }
+    ensures err { OnErr result (Extends out.old out.new) }
 {
     let over = next + count_keepalives(slots);
     out.append(List::of(
@@ -128,7 +129,7 @@ pub(crate) fn add_keepalives(
 ) -> Result<(), OutOfMemory>
     requires { next ≤ 1000000 }
     ensures ok { OnOk result (out.new ≡ out.old ++ keepalive_items next basis.now.state.keepalives) }
-    ensures err { OnErr result (take (length out.old) out.new ≡ out.old) }
+    ensures err { OnErr result (Extends out.old out.new) }
 {
     if !basis.state.holds_keepalive() {
         return Ok(());

@@ -11,6 +11,9 @@ use policy_state::{Answer, StateError, UpdateReply};
 use ra_records::{RaError, RaReply};
 use std::alloc::{AllocError, Global};
 
+/// Room for a usual line, without a code.
+const ROOM: usize = 120;
+
 /// The numbers of records that were left out.
 #[tactic(auto, unfolding(crate::specs::Report::left_word))]
 fn left_word(alloc: Global, left: &[u64]) -> Result<String, AllocError>
@@ -39,7 +42,8 @@ fn gen_text(
     let size = code.len();
     let left = left_word(alloc, left)?;
     let code = hex::encode(alloc, code)?;
-    let text = format!(in alloc; "gen {number} at {at} size {size} left {left} code {code}\n")?;
+    let mut text = String::with_capacity(alloc, code.len().saturating_add(ROOM))?;
+    write!(text, "gen {number} at {at} size {size} left {left} code {code}\n")?;
     Ok(text)
 }
 
@@ -55,7 +59,7 @@ pub fn print_gen(
     ensures ok { OnOk result (out.new ≡ out.old ++ gen_line number at left.now code.now) }
     ensures err { OnErr result (out.new ≡ out.old) }
 {
-    out.extend(gen_text(alloc, number, at, left, code)?.as_bytes())
+    out.append(List::of_text(gen_text(alloc, number, at, left, code)?))
 }
 
 /// Why a state refused an update.
@@ -110,7 +114,7 @@ pub fn print_update(
     ensures ok { OnOk result (out.new ≡ out.old ++ update_line r.now at) }
     ensures err { OnErr result (out.new ≡ out.old) }
 {
-    out.extend(update_text(alloc, *r, at)?.as_bytes())
+    out.append(List::of_text(update_text(alloc, *r, at)?))
 }
 
 #[tactic(auto, unfolding(crate::specs::Report::verdict_word))]
@@ -151,7 +155,8 @@ fn frame_text(alloc: Global, k: u64, lane: Option<u32>, a: &Answer) -> Result<St
     let (number, age, steps) = (a.number, a.age, a.steps);
     let verdict = verdict_word(a.verdict);
     let counter = counter_word(a.counter);
-    let text = format!(in alloc;
+    let mut text = String::with_capacity(alloc, ROOM)?;
+    write!(text,
         "frame {k}{lane} gen {number} age {age} {verdict} {counter} steps {steps}\n"
     )?;
     Ok(text)
@@ -169,7 +174,7 @@ pub fn print_frame(
     ensures ok { OnOk result (out.new ≡ out.old ++ frame_line k lane a.now) }
     ensures err { OnErr result (out.new ≡ out.old) }
 {
-    out.extend(frame_text(alloc, k, lane, a)?.as_bytes())
+    out.append(List::of_text(frame_text(alloc, k, lane, a)?))
 }
 
 /// Why a frame is no record.
@@ -217,5 +222,5 @@ pub fn print_ra(alloc: Global, k: u64, r: &RaReply, out: &mut List<u8>) -> Resul
     ensures ok { OnOk result (out.new ≡ out.old ++ ra_line k r.now) }
     ensures err { OnErr result (out.new ≡ out.old) }
 {
-    out.extend(ra_text(alloc, k, *r)?.as_bytes())
+    out.append(List::of_text(ra_text(alloc, k, *r)?))
 }

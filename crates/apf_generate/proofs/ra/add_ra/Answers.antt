@@ -1,9 +1,8 @@
 -- After an `Err` the old items stand at the front.
 use Rattle.std.proofs.Common.{refl}
-use Rattle.apf_coding.proofs.Appends.{on_err}
+use Rattle.apf_coding.proofs.Appends.{extends_more, on_err}
 use Rattle.ra_records.specs.Advert.{sections}
 use Rattle.ra_records.proofs.Matching.{within_of}
-use Rattle.apf_generate.proofs.Extending.{extends_more}
 use Rattle.apf_generate.proofs.ra.add_ra.Goals as goal
 
 pub add_sections-requires : goal.add_sections-requires
