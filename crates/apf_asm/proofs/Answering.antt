@@ -106,30 +106,27 @@ long_cases None n m false label test h = absurd cc
 
 -- ---- the clauses of a result with that answer, but for want of memory
 
-abbrev Answers : List Item → Result Code AsmError → Type 0
-Answers xs r = OnOk r (answer xs ≡ None) × IfErr r (λ e. (e ≡ OutOfMemory) ⊎ (answer xs ≡ Some e))
-
-err_is : (x e : AsmError) → ◌≡◌ {A = Result Code AsmError} (Err x) (Err e) → x ≡ e
+err_is : {T : Type 0} (x e : AsmError) → ◌≡◌ {A = Result T AsmError} (Err x) (Err e) → x ≡ e
 err_is x e h = cc
 
-only_where : (xs : List Item) (r : Result Code AsmError) (e : AsmError) → (e ≡ OutOfMemory → ⊥) → IfErr r (λ x. (x ≡ OutOfMemory) ⊎ (answer xs ≡ Some x)) → r ≡ Err e → answer xs ≡ Some e
+only_where : {T : Type 0} (xs : List Item) (r : Result T AsmError) (e : AsmError) → (e ≡ OutOfMemory → ⊥) → IfErr r (λ x. (x ≡ OutOfMemory) ⊎ (answer xs ≡ Some x)) → r ≡ Err e → answer xs ≡ Some e
 only_where xs (Ok c) e other err h = absurd cc
 only_where xs (Err x) e other err h = elim err [ inl m ↦ absurd (other (sym (err_is x e h) ∙ m)) | inr a ↦ a ∙ ap (λ (y : AsmError). Some y) (err_is x e h) ]
 
-always_where : (xs : List Item) (r : Result Code AsmError) (e : AsmError) → OnOk r (answer xs ≡ None) → IfErr r (λ x. (x ≡ OutOfMemory) ⊎ (answer xs ≡ Some x)) → answer xs ≡ Some e → IsErrAnd r (λ x. (x ≡ e) ⊎ (x ≡ OutOfMemory))
+always_where : {T : Type 0} (xs : List Item) (r : Result T AsmError) (e : AsmError) → OnOk r (answer xs ≡ None) → IfErr r (λ x. (x ≡ OutOfMemory) ⊎ (answer xs ≡ Some x)) → answer xs ≡ Some e → IsErrAnd r (λ x. (x ≡ e) ⊎ (x ≡ OutOfMemory))
 always_where xs (Ok c) e ok err h = absurd cc
 always_where xs (Err x) e ok err h = elim err [ inl m ↦ inr m | inr a ↦ inl (same (sym a ∙ h)) ]
   where
     same : ◌≡◌ {A = Option AsmError} (Some x) (Some e) → x ≡ e
     same p = cc
 
-pub refused_where : (xs : List Item) (r : Result Code AsmError) (e : AsmError) → (e ≡ OutOfMemory → ⊥) → IsOfLabel e → OnOk r (answer xs ≡ None) → IfErr r (λ x. (x ≡ OutOfMemory) ⊎ (answer xs ≡ Some x)) → ExactlyWhere (refusal xs ≡ Some e) r e
+pub refused_where : {T : Type 0} (xs : List Item) (r : Result T AsmError) (e : AsmError) → (e ≡ OutOfMemory → ⊥) → IsOfLabel e → OnOk r (answer xs ≡ None) → IfErr r (λ x. (x ≡ OutOfMemory) ⊎ (answer xs ≡ Some x)) → ExactlyWhere (refusal xs ≡ Some e) r e
 refused_where xs r e other label ok err = record {
   only = λ h. label_cases (refusal xs) (length (layout xs).bytes) _ e label (only_where xs r e other err h);
   always = λ h. always_where xs r e ok err (answer_first xs e h);
 }
 
-pub overlong_where : (xs : List Item) (r : Result Code AsmError) (n : ℕ) → OnOk r (answer xs ≡ None) → IfErr r (λ x. (x ≡ OutOfMemory) ⊎ (answer xs ≡ Some x)) → ExactlyWhere (IsOverlong xs n) r (TooLong n)
+pub overlong_where : {T : Type 0} (xs : List Item) (r : Result T AsmError) (n : ℕ) → OnOk r (answer xs ≡ None) → IfErr r (λ x. (x ≡ OutOfMemory) ⊎ (answer xs ≡ Some x)) → ExactlyWhere (IsOverlong xs n) r (TooLong n)
 overlong_where xs r n ok err = record {
   only = λ h.
       let p = long_cases (refusal xs) (length (layout xs).bytes) n _ (of_label 0 [] xs) refl (only_where xs r (TooLong n) (λ e. cc) err h) in

@@ -75,13 +75,25 @@ reads xs i x ws os forms same_widths same_offsets short lt is =
 
 -- ---- the items before one are emitted
 
+-- the bytes alone
+abbrev pub BytesEmitted : List Item → ℕ → List ℕ → Type 0
+BytesEmitted xs i bs = bs ++ (layout (drop i xs)).bytes ≡ (layout xs).bytes
+
 pub record Emitted (xs : List Item) (i : ℕ) (bs ps vs : List ℕ) : Type 0 where
-  pub bytes : bs ++ (layout (drop i xs)).bytes ≡ (layout xs).bytes
+  pub bytes : BytesEmitted xs i bs
   pub places : ps ++ places (length bs) (drop i xs) (item_widths (drop i xs)) ≡ (layout xs).places
   pub widths : vs ++ (layout (drop i xs)).widths ≡ (layout xs).widths
 
 appended : (a b : List ℕ) (old new rest : List ℕ) → new ≡ old ++ a → b ≡ a ++ rest → new ++ rest ≡ old ++ b
 appended a b old new rest e f = ap (λ (t : List ℕ). t ++ rest) e ∙ append_assoc old a rest ∙ ap (λ (t : List ℕ). old ++ t) (sym f)
+
+pub bytes_more : (xs : List Item) (i : ℕ) (x : Item) (w o : ℕ) (bs more : List ℕ) → i < length xs → x ≡ get_or xs i x → Reads xs i x w o → BytesEmitted xs i bs → more ≡ bs ++ piece x w o → BytesEmitted xs (i + 1) more
+unfolding code item_widths
+bytes_more xs i x w o bs more lt is r e b =
+    let rest : List Item = drop (i + 1) xs in
+    let ws : List ℕ = item_widths rest in
+    let width : w ≡ item_width x (item_offset x rest ws) = r.width_is ∙ ap (item_width x) r.offset_is in
+    appended (piece x w o) _ bs more _ b (ap (λ (t : List Item). (layout t).bytes) (drop_here xs i x lt is) ∙ ap₂ (λ (a b : ℕ). piece x a b ++ code rest ws) (sym width) (sym r.offset_is)) ∙ e
 
 pub emitted_more : (xs : List Item) (i : ℕ) (x : Item) (w o : ℕ) (bs ps vs more_bs more_ps more_vs : List ℕ) → i < length xs → x ≡ get_or xs i x → Reads xs i x w o → Emitted xs i bs ps vs
     → more_bs ≡ bs ++ piece x w o → more_ps ≡ ps ++ length bs ∷ [] → more_vs ≡ vs ++ own_width x w → Emitted xs (i + 1) more_bs more_ps more_vs
@@ -93,7 +105,7 @@ emitted_more xs i x w o bs ps vs more_bs more_ps more_vs lt is r e b p v =
     let width : w ≡ item_width x (item_offset x rest ws) = r.width_is ∙ ap (item_width x) r.offset_is in
     let next : length more_bs ≡ length bs + size x w = ap length b ∙ omega (arith, length-append bs (piece x w o), length-piece x w o) in
     record {
-      bytes = appended (piece x w o) _ bs more_bs _ b (ap (λ (t : List Item). (layout t).bytes) cut ∙ ap₂ (λ (a b : ℕ). piece x a b ++ code rest ws) (sym width) (sym r.offset_is)) ∙ e.bytes;
+      bytes = bytes_more xs i x w o bs more_bs lt is r e.bytes b;
       places = appended (length bs ∷ []) _ ps more_ps _ p (ap (λ (t : List Item). places (length bs) t (item_widths t)) cut ∙ ap (λ (a : ℕ). length bs ∷ places (length bs + size x a) rest ws) (sym width) ∙ ap (λ (n : ℕ). length bs ∷ places n rest ws) (sym next)) ∙ e.places;
       widths = appended (own_width x w) _ vs more_vs _ v (ap (λ (t : List Item). (layout t).widths) cut ∙ ap (λ (a : ℕ). own_width x a ++ jump_widths rest ws) (sym width)) ∙ e.widths;
     }
@@ -109,12 +121,16 @@ pub record IsLayout (xs : List Item) (bs ps vs : List ℕ) : Type 0 where
   pub places : ps ≡ (layout xs).places
   pub widths : vs ≡ (layout xs).widths
 
+pub bytes_end : (xs : List Item) (i : ℕ) (bs : List ℕ) → length xs ≤ i → BytesEmitted xs i bs → bs ≡ (layout xs).bytes
+unfolding code
+bytes_end xs i bs le e = sym (append-nil bs) ∙ ap (λ (t : List Item). bs ++ (layout t).bytes) (sym (drop_all i xs le)) ∙ e
+
 pub emitted_end : (xs : List Item) (i : ℕ) (bs ps vs : List ℕ) → length xs ≤ i → Emitted xs i bs ps vs → IsLayout xs bs ps vs
 unfolding code places jump_widths
 emitted_end xs i bs ps vs le e =
     let cut = drop_all i xs le in
     record {
-      bytes = sym (append-nil bs) ∙ ap (λ (t : List Item). bs ++ (layout t).bytes) (sym cut) ∙ e.bytes;
+      bytes = bytes_end xs i bs le e.bytes;
       places = sym (append-nil ps) ∙ ap (λ (t : List Item). ps ++ places (length bs) t (item_widths t)) (sym cut) ∙ e.places;
       widths = sym (append-nil vs) ∙ ap (λ (t : List Item). vs ++ (layout t).widths) (sym cut) ∙ e.widths;
     }

@@ -6,7 +6,6 @@ use Rattle.apf_asm.specs.declared.item.Target.{Target}
 use Rattle.apf_asm.specs.declared.item.Target.TheVariants as targets
 use Rattle.apf_asm.specs.declared.item.AsmError.{AsmError}
 use Rattle.apf_asm.specs.declared.item.AsmError.TheVariants.{Twice, Unknown, Backward, TooLong, OutOfMemory}
-use Rattle.apf_asm.specs.declared.emitting.Code.{Code}
 use Rattle.apf_asm.specs.Items.{marks}
 use Rattle.apf_asm.specs.Layout.{layout}
 
@@ -71,7 +70,7 @@ answer items = first (refusal items) (too_long (length (layout items).bytes))
 -- ---- when an error is answered
 
 -- only where the fact holds, and there always, but for want of memory
-pub record ExactlyWhere (fact : Type 0) (result : Result Code AsmError) (error : AsmError) : Type 0 where
+pub record ExactlyWhere {T : Type 0} (fact : Type 0) (result : Result T AsmError) (error : AsmError) : Type 0 where
   pub only : result ≡ Err error → fact
   pub always : fact → IsErrAnd result (λ e. (e ≡ error) ⊎ (e ≡ OutOfMemory))
 

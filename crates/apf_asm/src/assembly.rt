@@ -2,15 +2,38 @@
 
 ghost use Rattle.std.specs.Prelude.{◌≡◌, ◌≤◌, ◌⊎◌, ℕ, length, All, IfOk, IfErr, OnOk, Some, None};
 ghost use Rattle.apf_asm.specs.Items.{IsItemForm, IsLabelForm};
-ghost use Rattle.apf_asm.specs.Layout.{layout};
+ghost use Rattle.apf_asm.specs.Layout.{item_widths, item_offsets, layout};
 ghost use Rattle.apf_asm.specs.Refusals.{refusal, answer, ExactlyWhere, IsOverlong};
 ghost use Rattle.apf_asm.specs.Correct.{RunsAs};
+ghost use Rattle.apf_asm.specs.Spacing.{code_length};
 
-use crate::emitting::{Code, emit};
+use crate::emitting::{Code, emit, emit_bytes};
 use crate::item::{AsmError, Item};
 use crate::labels::find_aims;
-use crate::spacing::space;
+use crate::spacing::{Spacing, space};
+use apf_base::List;
 use std::alloc::Global;
+
+/// The spacing of items that are refused for no cause.
+fn lay_out(alloc: Global, items: &[Item]) -> Result<Spacing, AsmError>
+    requires few { length items.now ≤ 1048576 }
+    requires forms { All IsItemForm items.now }
+    ensures widths { IfOk result (λ spacing. spacing.widths.items ≡ item_widths items.now) }
+    ensures offsets { IfOk result (λ spacing. spacing.offsets.items ≡ item_offsets items.now) }
+    ensures bytes { IfOk result (λ spacing. spacing.bytes ≡ code_length items.now) }
+    ensures short { IfOk result (λ spacing. spacing.bytes ≤ 65535) }
+    ensures ok { OnOk result (answer items.now ≡ None) }
+    ensures err { IfErr result (λ e. (e ≡ AsmError.OutOfMemory) ⊎ (answer items.now ≡ Some e)) }
+{
+    let aims = find_aims(alloc, items)?;
+    let spacing = space(alloc, items, &aims)?;
+    if spacing.bytes > 65535 {
+        return Err(AsmError::TooLong {
+            bytes: spacing.bytes,
+        });
+    }
+    Ok(spacing)
+}
 
 /// Assembles items, with the one answer that they have where there is memory.
 fn assemble_items(alloc: Global, items: &[Item]) -> Result<Code, AsmError>
@@ -22,21 +45,22 @@ fn assemble_items(alloc: Global, items: &[Item]) -> Result<Code, AsmError>
     ensures ok { OnOk result (answer items.now ≡ None) }
     ensures err { IfErr result (λ e. (e ≡ AsmError.OutOfMemory) ⊎ (answer items.now ≡ Some e)) }
 {
-    let aims = find_aims(alloc, items)?;
-    let spacing = space(alloc, items, &aims)?;
-    if spacing.bytes > 65535 {
-        return Err(AsmError::TooLong {
-            bytes: spacing.bytes,
-        });
-    }
-    let code = emit(
-        alloc,
-        items,
-        &spacing.widths,
-        &spacing.offsets,
-        spacing.bytes as usize,
-    )?;
-    Ok(code)
+    let spacing = lay_out(alloc, items)?;
+    let room = spacing.bytes as usize;
+    Ok(emit(alloc, items, &spacing.widths, &spacing.offsets, room)?)
+}
+
+/// The bytes of items, with the one answer that they have where there is memory.
+fn bytes_of_items(alloc: Global, items: &[Item]) -> Result<List<u8>, AsmError>
+    requires few { length items.now ≤ 1048576 }
+    requires forms { All IsItemForm items.now }
+    ensures bytes { IfOk result (λ bytes. bytes ≡ (layout items.now).bytes) }
+    ensures ok { OnOk result (answer items.now ≡ None) }
+    ensures err { IfErr result (λ e. (e ≡ AsmError.OutOfMemory) ⊎ (answer items.now ≡ Some e)) }
+{
+    let spacing = lay_out(alloc, items)?;
+    let room = spacing.bytes as usize;
+    Ok(emit_bytes(alloc, items, &spacing.widths, &spacing.offsets, room)?)
 }
 
 /// The code of items, at most 1,048,576 of them, each well formed with at most 65,535 bytes.
@@ -71,4 +95,26 @@ pub fn assemble(alloc: Global, items: &[Item]) -> Result<Code, AsmError>
     ensures err { IfErr result (λ e. (e ≡ AsmError.OutOfMemory) ⊎ (answer items.now ≡ Some e)) }
 {
     assemble_items(alloc, items)
+}
+
+/// The bytes of items, as `assemble` gives them, without their places and widths.
+pub fn assemble_bytes(alloc: Global, items: &[Item]) -> Result<List<u8>, AsmError>
+    requires few { length items.now ≤ 1048576 }
+    requires forms { All IsItemForm items.now }
+    // The code is the one layout of the items.
+    ensures bytes { IfOk result (λ bytes. bytes ≡ (layout items.now).bytes) }
+
+    // Each refusal comes exactly where it stands first, but for want of memory.
+    ensures twice { (item label : ℕ) →
+        ExactlyWhere (refusal items.now ≡ Some (AsmError.Twice item label)) result (AsmError.Twice item label) }
+    ensures unknown { (item label : ℕ) →
+        ExactlyWhere (refusal items.now ≡ Some (AsmError.Unknown item label)) result (AsmError.Unknown item label) }
+    ensures backward { (item label : ℕ) →
+        ExactlyWhere (refusal items.now ≡ Some (AsmError.Backward item label)) result (AsmError.Backward item label) }
+    ensures too_long { (bytes : ℕ) → ExactlyWhere (IsOverlong items.now bytes) result (AsmError.TooLong bytes) }
+    // Every answer is that of the definition, but for want of memory.
+    ensures ok { OnOk result (answer items.now ≡ None) }
+    ensures err { IfErr result (λ e. (e ≡ AsmError.OutOfMemory) ⊎ (answer items.now ≡ Some e)) }
+{
+    bytes_of_items(alloc, items)
 }

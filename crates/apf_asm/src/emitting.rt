@@ -129,3 +129,31 @@ pub(crate) fn emit(
     }
     Ok(code)
 }
+
+/// The bytes alone of items with the widths and offsets of their layout, with room for this many.
+pub(crate) fn emit_bytes(
+    alloc: Global,
+    items: &[Item],
+    widths: &[u8],
+    offsets: &[u64],
+    room: usize,
+) -> Result<List<u8>, OutOfMemory>
+    requires forms { All IsItemForm items.now }
+    requires widths { widths.now ≡ item_widths items.now }
+    requires offsets { offsets.now ≡ item_offsets items.now }
+    requires short { code_length items.now ≤ 65535 }
+    ensures { IfOk result (λ bytes. bytes ≡ (layout items.now).bytes) }
+{
+    let mut bytes = List::new(alloc);
+    bytes.reserve(room)?;
+    for (number, item) in items.iter().enumerate() {
+        append_piece(
+            alloc,
+            item,
+            widths[number],
+            offsets[number] as u32,
+            &mut bytes,
+        )?;
+    }
+    Ok(bytes)
+}

@@ -24,7 +24,7 @@ mod text_number;
 #[cfg(test)]
 mod text_tests;
 
-pub use assembly::assemble;
+pub use assembly::{assemble, assemble_bytes};
 pub use emitting::Code;
 pub use item::{AsmError, Fixed, Item, Jump, Target};
 pub use laws::{codes_are_at_most_wide, narrowing_comes_to_the_layout, refusals_are_first};

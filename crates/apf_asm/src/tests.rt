@@ -115,6 +115,12 @@ fn assembled(rt: &impl Abort, alloc: Global, parts: &[Part]) -> Result<Code, Asm
     assemble(alloc, items.as_slice())
 }
 
+fn bytes_alone(rt: &impl Abort, alloc: Global, parts: &[Part]) -> Result<List<u8>, AsmError> {
+    let items = items_of(alloc, parts)?;
+    assert!(rt; items.len() <= 1_048_576);
+    assemble_bytes(alloc, items.as_slice())
+}
+
 const LABEL: Target = Target::Label(1);
 
 /// What a list of items comes to, or what its first bytes and places are.
@@ -186,6 +192,8 @@ fn rows_are_laid_out(rt: HostRuntime) -> Result<(), Fail> {
         assert!(rt; code.bytes.as_slice().starts_with(row.bytes), "{name}");
         assert!(rt; code.places.as_slice().starts_with(row.places), "{name}");
         assert!(rt; code.widths.as_slice() == row.widths, "{name}");
+        let bytes = bytes_alone(&rt, rt.alloc(), row.parts)?;
+        assert!(rt; bytes.as_slice() == code.bytes.as_slice(), "{name}");
     }
     Ok(())
 }

@@ -8,7 +8,7 @@ ghost use Rattle.apf_generate.specs.Sizes.{need_of};
 ghost use Rattle.size_fit.specs.Sizes.{limit_of};
 
 use crate::ra::add_records;
-use apf_asm::{AsmError, Code, Item, Target, assemble};
+use apf_asm::{AsmError, Item, Target, assemble_bytes};
 use apf_base::{List, OutOfMemory};
 use apf_coding::{Op, Verdict};
 use arp_rules::{emit_arp, emit_link};
@@ -121,15 +121,8 @@ fn assembled(alloc: Global, basis: &Basis, items: &[Item]) -> Result<List<u8>, O
     ensures means { IfOk result (λ code. Means code basis.now) }
     ensures short { IfOk result (λ code. length code ≤ need_of basis.now) }
 {
-    match assemble(alloc, items) {
-        Ok(code) => {
-            let Code {
-                bytes,
-                places: _,
-                widths: _,
-            } = code;
-            Ok(bytes)
-        }
+    match assemble_bytes(alloc, items) {
+        Ok(code) => Ok(code),
         Err(AsmError::OutOfMemory) => Err(OutOfMemory),
         Err(AsmError::Twice { item: _, label: _ }) => unreachable!(),
         Err(AsmError::Unknown { item: _, label: _ }) => unreachable!(),

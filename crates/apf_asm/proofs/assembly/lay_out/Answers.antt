@@ -1,6 +1,6 @@
 use Rattle.std.proofs.Common.{inr, arith}
 use Rattle.apf_asm.proofs.Answering.{answer_long, answer_none}
-use Rattle.apf_asm.proofs.assembly.assemble_items.Goals as goal
+use Rattle.apf_asm.proofs.assembly.lay_out.Goals as goal
 
 pub returns-then-spacing-gt65535-clause-err : goal.returns-then-spacing-gt65535-clause-err
 returns-then-spacing-gt65535-clause-err c = inr (answer_long c.args.items.now c.in_ok-spacing.spacing.bytes c.in_ok-aims.ensures.ok c.in_ok-spacing.ensures.bytes c.if-spacing-gt65535.true)
