@@ -13,7 +13,7 @@ ghost use Rattle.apf_run.specs.AsmEnds.{asm_end, asm_output, text_end, items_end
 
 use crate::fault::{Fault, Input};
 use crate::files::{read_file, write_piece};
-use apf_asm::{AsmError, Item, TextError, assemble, read_text};
+use apf_asm::{AsmError, Item, TextError, assemble_bytes, read_text};
 use apf_base::{List, Shelf, Sink, Source};
 use std::alloc::Global;
 
@@ -43,8 +43,8 @@ fn code_of(alloc: Global, items: &[Item]) -> Result<List<u8>, Fault>
     ensures none { OnOk result (answer items.now ≡ None) }
     ensures err { IfErr result (λ fault. (fault ≡ Fault.OutOfMemory) ⊎ (items_end (answer items.now) ≡ Err fault)) }
 {
-    match assemble(alloc, items) {
-        Ok(code) => Ok(code.bytes),
+    match assemble_bytes(alloc, items) {
+        Ok(bytes) => Ok(bytes),
         Err(AsmError::Twice { item, label }) => Err(Fault::Twice { item, label }),
         Err(AsmError::Unknown { item, label }) => Err(Fault::Unknown { item, label }),
         Err(AsmError::Backward { item, label }) => Err(Fault::Backward { item, label }),
