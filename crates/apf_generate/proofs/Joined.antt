@@ -8,7 +8,7 @@ use Rattle.policy_state.specs.declared.ruling.Ruling.TheVariants.{Silent}
 use Rattle.policy_state.specs.Asking.{otherwise}
 use Rattle.policy_state.specs.Policy.{link, arp, ip4, ip6, others}
 use Rattle.policy_state.proofs.AskingLaws.{otherwise-silent}
-use Rattle.rule_items.specs.Fragment.{IsPart, Emits}
+use Rattle.rule_items.specs.Fragment.{Emits}
 use Rattle.rule_items.proofs.Language.{said_first}
 use Rattle.rule_items.proofs.Parts.{part-then, part-same}
 use Rattle.rule_items.specs.Rulings.{said_of}
