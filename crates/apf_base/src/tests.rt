@@ -25,7 +25,7 @@ fn lists_grow(rt: HostRuntime) -> Result<(), Fail> {
     list.append(List::of(alloc, [6])?)?;
     let mut text = List::new(alloc);
     text.append(List::of_text(String::from_str(alloc, "six")?))?;
-    assert_eq!(rt; text.as_slice(), b"six");
+    assert_eq!(rt; *text.as_slice(), *b"six".as_slice());
     assert_eq!(rt; *list.as_slice(), *[1, 2, 3, 4, 5, 6].as_slice());
     assert_eq!(rt; list.remove(0), Some(1));
     list.truncate(2);

@@ -43,7 +43,10 @@ fn gen_text(
     let left = left_word(alloc, left)?;
     let code = hex::encode(alloc, code)?;
     let mut text = String::with_capacity(alloc, code.len().saturating_add(ROOM))?;
-    write!(text, "gen {number} at {at} size {size} left {left} code {code}\n")?;
+    write!(
+        text,
+        "gen {number} at {at} size {size} left {left} code {code}\n"
+    )?;
     Ok(text)
 }
 
@@ -156,7 +159,8 @@ fn frame_text(alloc: Global, k: u64, lane: Option<u32>, a: &Answer) -> Result<St
     let verdict = verdict_word(a.verdict);
     let counter = counter_word(a.counter);
     let mut text = String::with_capacity(alloc, ROOM)?;
-    write!(text,
+    write!(
+        text,
         "frame {k}{lane} gen {number} age {age} {verdict} {counter} steps {steps}\n"
     )?;
     Ok(text)
