@@ -11,7 +11,7 @@ folder=$(mktemp -d)
 trap 'rm -rf "$folder"' EXIT
 ${CC:-cc} -O2 -o "$folder/plain_filter" "$top/bench/plain_filter.c"
 cd "$top/bench"
-python3 - "$program" "$folder" "${1:-1000}" <<'PYTHON'
+python3 -B - "$program" "$folder" "${1:-1000}" <<'PYTHON'
 import collections, os, subprocess, sys
 
 from random_input import Case

@@ -10,7 +10,7 @@ BROADCAST = b"\xff" * 6
 ALL_NODES = bytes.fromhex("ff020000000000000000000000000001")
 HOSTS = [bytes.fromhex(word) for word in ("c0a80105", "c0a80109", "0a000002", "0a000009")]
 GROUPS = [bytes.fromhex(word) for word in ("e00000fb", "ffffffff", "c0a801ff", "0a0000ff", "c0a80107", "00000000")]
-DENIED = [0x88A2, 0x88A4, 0x88B8, 0x0842, 0x0806, 0x0800, 0x86DD, 0x05DC]
+DENIED = [0x88A2, 0x88A4, 0x88B8, 0x0842, 0x05DC, 0x88CC, 0x0806, 0x0800, 0x86DD]
 PORTS = [40000, 443, 68, 5353]
 
 
@@ -61,7 +61,7 @@ class Case:
 
     def script(self):
         """The text of a script, as docs/SCRIPT.md has it. For each first program its device has room."""
-        denied = self.random.sample(DENIED, self.random.choice([0, 0, 1, 2, 5]))
+        denied = self.random.sample(DENIED, self.random.choice([0, 0, 0, 1, 2]))
         least = 128 + 512 + 9 * len(denied)
         capacity = self.random.choice([least, least + 79, least + 80, least + 300, 1024, 2048, 8192])
         lines = [
@@ -156,10 +156,12 @@ class Case:
             frame[15:18], frame[56:58] = self.some_bytes(3), self.some_bytes(2)
         if self.chance(0.3):
             frame[60:62] = struct.pack(">H", self.lifetime())
+        if self.chance(0.1):
+            frame += self.random.choice([b"\x01\x00", b"\x03\x01" + bytes(6), b"\x05\xbe" + bytes(1518)])
         return bytes(frame)
 
     def other(self):
-        ethertype = self.random.choice(DENIED + [0x0040, 0x0600, 0x88CC])
+        ethertype = self.random.choice(DENIED[:6] + [0x0040, 0x0600, 0x9000])
         return self.ethernet(self.destination(), ethertype, self.some_bytes(self.random.choice([0, 1, 40])))
 
     def frame(self):
