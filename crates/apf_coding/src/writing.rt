@@ -60,6 +60,7 @@ fn append_counted(out: &mut List<u8>, i: &Instr<'_>) -> Result<(), OutOfMemory>
 }
 
 /// Appends the spelling. An `Err` leaves a part of it.
+#[inline(always)]
 fn append(out: &mut List<u8>, i: &Instr<'_>) -> Result<(), OutOfMemory>
     requires { IsWellFormed (view i.now) }
     ensures ok { OnOk result (out.new ≡ out.old ++ spelling (view i.now)) }
@@ -73,6 +74,7 @@ fn append(out: &mut List<u8>, i: &Instr<'_>) -> Result<(), OutOfMemory>
 
 /// Appends the one spelling of a well-formed instruction. Where there is no memory for it, `out`
 /// stays as it was.
+#[inline(always)]
 pub fn encode(_alloc: Global, i: &Instr<'_>, out: &mut List<u8>) -> Result<(), OutOfMemory>
     requires { IsWellFormed (view i.now) }
     ensures ok { OnOk result (out.new ≡ out.old ++ spelling (view i.now)) }

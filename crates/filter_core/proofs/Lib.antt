@@ -6,3 +6,4 @@ pub mod Numbering
 pub mod Fitting
 pub mod Growing
 pub mod SoundBases
+pub mod Standing

@@ -1,6 +1,7 @@
 //! The core: one install after another, and frames between them.
 
 ghost use Rattle.std.specs.Prelude.{◌≡◌, ◌≤◌, ◌<◌, ◌^◌, ◌-◌, ◌↔◌, ℕ, length, replicate, max, IfOk, OnErr, Err, Ok};
+ghost use Rattle.std.specs.Option.{unwrap_or};
 ghost use Rattle.policy_state.specs.States.{start};
 ghost use Rattle.size_fit.specs.Sizes.{base, limit_of};
 ghost use Rattle.filter_core.specs.Calls.{Goes, Renews, update_installs, advert_installs};
@@ -88,6 +89,16 @@ impl Core {
         self.install.answer(frame, self.clock, &mut self.memory)
     }
 
+    // These records take the place of those that are held, where there are some.
+    fn hold(&mut self, records: Option<List<Held>>)
+        requires { length (unwrap_or records self.old.held) ≤ 10 }
+        ensures { self.new ≡ record self.old { held = unwrap_or records self.old.held } }
+    {
+        if let Some(records) = records {
+            self.held = records;
+        }
+    }
+
     // Another state: where its base doesn't fit, nothing changes.
     fn set_state(&mut self, alloc: Global, state: FilterState) -> Result<UpdateReply, OutOfMemory>
         requires { self.old.install.number < 2 ^ 64 - 1 }
@@ -107,7 +118,7 @@ impl Core {
             self.held.as_slice(),
         )?;
         self.install = install;
-        self.held = held;
+        self.hold(held);
         Ok(UpdateReply::Installed)
     }
 
@@ -177,7 +188,7 @@ impl Core {
             records.as_slice(),
         )?;
         self.install = install;
-        self.held = held;
+        self.held = held.unwrap_or(records);
         Ok(RaReply::Refreshed(id))
     }
 
@@ -211,7 +222,7 @@ impl Core {
             records.as_slice(),
         )?;
         self.install = install;
-        self.held = held;
+        self.held = held.unwrap_or(records);
         self.added = id;
         Ok(RaReply::New(id))
     }

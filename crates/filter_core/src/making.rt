@@ -1,13 +1,14 @@
 //! Making an install.
 
 ghost use Rattle.std.specs.Prelude.{◌≡◌, ◌≤◌, ◌<◌, ◌+◌, ◌-◌, ◌^◌, length, map, IfOk};
+ghost use Rattle.std.specs.Option.{unwrap_or};
 ghost use Rattle.size_fit.specs.Sizes.{base, limit_of};
 ghost use Rattle.filter_core.specs.Coded.{plain};
 ghost use Rattle.filter_core.specs.Installs.{install_of, chosen_at};
 ghost use Rattle.filter_core.specs.Records.{standing, ids_of};
 
 use crate::install::Install;
-use crate::records::standing;
+use crate::records::{all_stand, standing};
 use apf_base::{List, OutOfMemory};
 use apf_generate::generate;
 use policy_state::{Basis, Chosen, Config, FilterState};
@@ -77,24 +78,30 @@ pub(crate) fn make_install(
     })
 }
 
-/// The install that comes after another, with a state, and the records that aren't expired, of which it is made.
+/// The install that comes after another, with a state and of the records that aren't expired. These come beside it where
+/// some are, so that nothing is copied where none is.
 pub(crate) fn make_next(
     alloc: Global,
     old: &Install,
     now: u32,
     state: FilterState,
     records: &[Held],
-) -> Result<(Install, List<Held>), OutOfMemory>
+) -> Result<(Install, Option<List<Held>>), OutOfMemory>
     requires few { length records.now ≤ 10 }
     requires number { old.now.number < 2 ^ 64 - 1 }
     requires fits { base old.now.basis.config state ≤ limit_of old.now.basis.config }
     ensures install { IfOk result (λ next. plain next.0 ≡ install_of (old.now.number + 1) now old.now.basis.config state (standing now records.now)) }
     ensures number { IfOk result (λ next. next.0.number ≡ old.now.number + 1) }
-    ensures held { IfOk result (λ next. next.1 ≡ standing now records.now) }
-    ensures few { IfOk result (λ next. length next.1 ≤ length records.now) }
+    ensures held { IfOk result (λ next. unwrap_or next.1 records.now ≡ standing now records.now) }
+    ensures few { IfOk result (λ next. length (unwrap_or next.1 records.now) ≤ length records.now) }
 {
-    let held = standing(alloc, records, now)?;
+    let number = old.number + 1;
     let config = old.basis.config.copy(alloc)?;
-    let install = make_install(alloc, old.number + 1, now, config, state, held.as_slice())?;
-    Ok((install, held))
+    if all_stand(records, now) {
+        let install = make_install(alloc, number, now, config, state, records)?;
+        return Ok((install, None));
+    }
+    let held = standing(alloc, records, now)?;
+    let install = make_install(alloc, number, now, config, state, held.as_slice())?;
+    Ok((install, Some(held)))
 }

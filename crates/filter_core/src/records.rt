@@ -1,11 +1,19 @@
 //! The list of the records that are held.
 
 ghost use Rattle.std.specs.Prelude.{◌≡◌, ◌≤◌, ◌<◌, length, slice_index, IfOk, IfSome};
-ghost use Rattle.filter_core.specs.Records.{standing, match_of, ids_of, to_front};
+ghost use Rattle.std.specs.List.{list_all};
+ghost use Rattle.filter_core.specs.Records.{is_standing, standing, match_of, ids_of, to_front};
 
 use apf_base::{List, OutOfMemory};
 use ra_records::{Held, Record};
 use std::alloc::Global;
+
+/// Whether no record is expired.
+pub(crate) fn all_stand(records: &[Held], now: u32) -> bool
+    ensures { result ≡ list_all (is_standing now) records.now }
+{
+    records.iter().all(|held| held.advert.remaining(now) > 0)
+}
 
 /// Copies of the records that aren't expired.
 pub(crate) fn standing(alloc: Global, records: &[Held], now: u32) -> Result<List<Held>, OutOfMemory>

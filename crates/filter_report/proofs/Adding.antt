@@ -22,15 +22,15 @@ kept_none (Some x) (Some y) k = k ∙ sym (append-nil x)
 pub all_and_all : (a b c : Option (List ℕ)) (xs ys : List (List ℕ)) → AppendsAll a b xs → AppendsAll b c ys → AppendsAll a c (xs ++ ys)
 all_and_all a b c xs ys before now = subst (λ (bs : List ℕ). Appends a c bs) (sym (concat-append xs ys)) (Appends-trans a b c (concat xs) (concat ys) before now)
 
+pub front_of_more : (a b : Option (List ℕ)) (xs ys : List ℕ) → AppendsFront a b xs → AppendsFront a b (xs ++ ys)
+front_of_more a b xs ys now = (now.0, now.1 ++ ys, ap (λ (l : List ℕ). l ++ ys) now.2 ∙ append_assoc now.0 now.1 ys, now.3)
+
+pub bytes_and_front : (a b c : Option (List ℕ)) (xs ys : List ℕ) → Appends a b xs → AppendsFront b c ys → AppendsFront a c (xs ++ ys)
+bytes_and_front a b c xs ys before now =
+    (xs ++ now.0, now.1, ap (λ (l : List ℕ). xs ++ l) now.2 ∙ sym (append_assoc xs now.0 now.1), Appends-trans a b c xs now.0 before now.3)
+
 pub all_and_front : (a b c : Option (List ℕ)) (xs ys : List (List ℕ)) → AppendsAll a b xs → AppendsFront b c (concat ys) → AppendsFront a c (concat (xs ++ ys))
-all_and_front a b c xs ys before now =
-    let front = now.0 in
-    let rest = now.1 in (
-      concat xs ++ front,
-      rest,
-      concat-append xs ys ∙ ap (λ (l : List ℕ). concat xs ++ l) now.2 ∙ sym (append_assoc (concat xs) front rest),
-      Appends-trans a b c (concat xs) front before now.3,
-    )
+all_and_front a b c xs ys before now = subst (λ (bs : List ℕ). AppendsFront a c bs) (sym (concat-append xs ys)) (bytes_and_front a b c (concat xs) (concat ys) before now)
 
 -- ---- calls behind calls
 

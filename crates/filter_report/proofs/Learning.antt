@@ -241,6 +241,3 @@ module _ (c : Course) (core mid : Standing) (frames lines : List (List ℕ)) (se
 
 pub two_lines : (all first : List (List ℕ)) (x y u v : List ℕ) → all ≡ first ++ y ∷ [] → first ≡ x ∷ [] → x ≡ u → y ≡ v → all ≡ u ∷ v ∷ []
 two_lines all first x y u v is one ex ey = is ∙ ap (λ (l : List (List ℕ)). l ++ y ∷ []) one ∙ ap (λ (l : List ℕ). l ∷ y ∷ []) ex ∙ ap (λ (l : List ℕ). u ∷ l ∷ []) ey
-
-pub lines_behind : (all first later : List (List ℕ)) (x u : List ℕ) → all ≡ first ++ later → first ≡ x ∷ [] → x ≡ u → all ≡ (u ∷ []) ++ later
-lines_behind all first later x u is one e = is ∙ ap (λ (l : List (List ℕ)). l ++ later) one ∙ ap (λ (l : List ℕ). l ∷ later) e

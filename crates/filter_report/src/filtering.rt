@@ -20,7 +20,7 @@ use crate::fault::ReportFault;
 use crate::frames::frame_lines;
 use crate::lines::gen_line;
 use crate::totals::last_lines;
-use crate::writing::write_lines;
+use crate::writing::{write_first_and_more, write_lines};
 use apf_base::{List, Sink};
 use filter_core::{Core, StartError};
 use pcap_files::{Placed, frame_at};
@@ -154,7 +154,7 @@ impl Filtering {
         self.frames += 1;
         let done = frame_lines(alloc, &mut self.core, self.frames, second, frame)?;
         self.passed = with_one(done.passed, self.passed);
-        write_lines(done.lines.as_slice(), out)
+        write_first_and_more(&done.line, done.more.as_slice(), out)
     }
 
     // Takes the events that are due at a frame's second, and then the frame.

@@ -65,11 +65,12 @@ fn learnt_lines(
     Ok(lines)
 }
 
-/// Whether a frame passed, and its lines.
+/// Whether a frame passed, its line, and the lines of what was learnt from it.
 #[derive(Drop)]
 pub(crate) struct FrameLines {
     pub passed: bool,
-    pub lines: List<List<u8>>,
+    pub line: List<u8>,
+    pub more: List<List<u8>>,
 }
 
 /// Answers frame k, and learns from it where it passes and may be an advertisement.
@@ -83,7 +84,7 @@ pub(crate) fn frame_lines(
     requires number { core.old.install.number < 2 ^ 64 - 1 }
     requires few { length frame.now ≤ 262144 }
     ensures along { (c : Course) (frames lines : Items (Items ℕ)) → Along c core.old frames lines → k ≡ length frames + 1
-        → IfOk result (λ done. Along (after_frame c (record { second = second; frame = frame.now })) core.new (frames ++ frame.now ∷ []) (lines ++ done.lines)) }
+        → IfOk result (λ done. Along (after_frame c (record { second = second; frame = frame.now })) core.new (frames ++ frame.now ∷ []) (lines ++ done.line ∷ done.more)) }
     ensures passed { (c : Course) (frames lines : Items (Items ℕ)) → Along c core.old frames lines
         → IfOk result (λ done. passed (answers_of (after_frame c (record { second = second; frame = frame.now })).told) ≡ with_one done.passed (passed (answers_of c.told))) }
     ensures number { core.new.install.number ≤ core.old.install.number + 1 }
@@ -91,10 +92,10 @@ pub(crate) fn frame_lines(
     let answer = core.answer(frame, second);
     let passed = passes(answer.verdict);
     let line = frame_line(alloc, k, &answer)?;
-    let mut lines = List::of(alloc, [line])?;
     if !is_learnt(passed, frame) {
-        return Ok(FrameLines { passed, lines });
+        let more = List::new(alloc);
+        return Ok(FrameLines { passed, line, more });
     }
-    lines.append(learnt_lines(alloc, core, k, second, frame)?)?;
-    Ok(FrameLines { passed, lines })
+    let more = learnt_lines(alloc, core, k, second, frame)?;
+    Ok(FrameLines { passed, line, more })
 }

@@ -1,5 +1,5 @@
 use Rattle.std.proofs.Common.{rules, sym, ap, ◌∙◌, ◌∷◌, ◌+◌, [], Bool, None, List, ℕ}
-use Rattle.filter_report.proofs.Learning.{frame_kept, frame_learnt, frame_passed, lines_behind}
+use Rattle.filter_report.proofs.Learning.{frame_kept, frame_learnt, frame_passed}
 use Rattle.filter_core.specs.Replay.{passed, answers_of}
 use Rattle.script_text.specs.Report.{frame_line}
 use Rattle.filter_report.specs.Text.{with_one}
@@ -9,7 +9,7 @@ pub returns-then-not-is_learnt-clause-along : goal.returns-then-not-is_learnt-cl
 returns-then-not-is_learnt-clause-along c = λ course frames lines along k.
     let a = c.answer-answer in
     frame_kept course c.args.core.now a.new.self frames lines c.args.second c.args.frame.now a.result along a.ensures.answer a.ensures.clock a.ensures.install a.ensures.held a.ensures.added
-    _ (search rules) (c.in_ok-lines.ensures ∙ ap (λ (l : List ℕ). l ∷ []) (c.in_ok-line.ensures ∙ ap (λ (n : ℕ). frame_line n None c.answer-answer.result) (k ∙ ap (λ (n : ℕ). n + 1) (sym along.taken))))
+    _ (search rules) (ap (λ (l : List (List ℕ)). c.in_ok-line.line ∷ l) c.new-more.ensures ∙ ap (λ (l : List ℕ). l ∷ []) (c.in_ok-line.ensures ∙ ap (λ (n : ℕ). frame_line n None c.answer-answer.result) (k ∙ ap (λ (n : ℕ). n + 1) (sym along.taken))))
 
 pub returns-then-not-is_learnt-clause-passed : goal.returns-then-not-is_learnt-clause-passed
 returns-then-not-is_learnt-clause-passed c = λ course frames lines along.
@@ -22,8 +22,8 @@ returns-clause-along c = λ course frames lines along k.
     let a = c.answer-answer in
     frame_learnt course c.args.core.now a.new.self frames lines c.args.second c.args.frame.now a.result along a.ensures.answer a.ensures.clock a.ensures.install a.ensures.held a.ensures.added
     c.learnt_lines.new.core _ _ (search rules)
-    (λ d fs ls here count. c.in_ok-learnt_lines.ensures.along d fs ls here (k ∙ ap (λ (n : ℕ). n + 1) (sym along.taken) ∙ count))
-    (lines_behind _ _ _ _ _ c.in_ok-append.ensures.ok c.in_ok-lines.ensures (c.in_ok-line.ensures ∙ ap (λ (n : ℕ). frame_line n None c.answer-answer.result) (k ∙ ap (λ (n : ℕ). n + 1) (sym along.taken))))
+    (λ d fs ls here count. c.in_ok-more.ensures.along d fs ls here (k ∙ ap (λ (n : ℕ). n + 1) (sym along.taken) ∙ count))
+    (ap (λ (l : List ℕ). l ∷ c.in_ok-more.more) (c.in_ok-line.ensures ∙ ap (λ (n : ℕ). frame_line n None c.answer-answer.result) (k ∙ ap (λ (n : ℕ). n + 1) (sym along.taken))))
 
 pub returns-clause-passed : goal.returns-clause-passed
 returns-clause-passed c = λ course frames lines along.

@@ -28,11 +28,11 @@ returns-clause-ok g c = λ course frames.
     let old : Reporting = record { core = inside.core; left = drop inside.taken inside.events; frames = inside.frames; passed = inside.passed } in
     let see : (lines : List (List ℕ)) → InCourse course c.args.self.now frames lines → InCourse course old frames lines = λ lines before. subst (λ (r : Reporting). InCourse course r frames lines) (sym c.self.view_is) before in
     let arrival : Arrival = record { second = c.args.second; frame = c.args.frame.now } in
-    adds_these (InCourse course c.args.self.now frames) (InCourse (after_frame course arrival) _ (frames ++ c.args.frame.now ∷ [])) _ _ c.in_ok-done.done.lines c.write_lines.result
-    (λ lines was. let before = see lines was in frame_in_course course old _ arrival frames lines (lines ++ c.in_ok-done.done.lines) refl refl
+    adds_these (InCourse course c.args.self.now frames) (InCourse (after_frame course arrival) _ (frames ++ c.args.frame.now ∷ [])) _ _ (c.in_ok-done.done.line ∷ c.in_ok-done.done.more) c.write_first_and_more.result
+    (λ lines was. let before = see lines was in frame_in_course course old _ arrival frames lines (lines ++ (c.in_ok-done.done.line ∷ c.in_ok-done.done.more)) refl refl
     (c.in_ok-done.ensures.passed course frames lines before.along ∙ ap (λ (n : ℕ). with_one c.in_ok-done.done.passed n) (sym before.frames_passed) ∙ sym c.with_one-self-inside.ensures.value)
     before (c.in_ok-done.ensures.along course frames lines before.along (ap (λ (n : ℕ). n + 1) before.frames_taken)))
-    (subst (λ (ls : List (List ℕ)). OnOk c.write_lines.result (AppendsAll (g.O.Sink.held c.args.out.now) (g.O.Sink.held c.write_lines.new.out) ls)) c.as_slice.ensures c.write_lines.ensures.ok)
+    (subst (λ (ls : List (List ℕ)). OnOk c.write_first_and_more.result (AppendsAll (g.O.Sink.held c.args.out.now) (g.O.Sink.held c.write_first_and_more.new.out) (c.in_ok-done.done.line ∷ ls))) c.as_slice.ensures c.write_first_and_more.ensures.ok)
 
 pub returns-clause-err : goal.returns-clause-err
 returns-clause-err g c = λ course frames.
@@ -40,8 +40,8 @@ returns-clause-err g c = λ course frames.
     let old : Reporting = record { core = inside.core; left = drop inside.taken inside.events; frames = inside.frames; passed = inside.passed } in
     let see : (lines : List (List ℕ)) → InCourse course c.args.self.now frames lines → InCourse course old frames lines = λ lines before. subst (λ (r : Reporting). InCourse course r frames lines) (sym c.self.view_is) before in
     let arrival : Arrival = record { second = c.args.second; frame = c.args.frame.now } in
-    breaks_these (InCourse course c.args.self.now frames) (Leads (after_frame course arrival).told (frames ++ c.args.frame.now ∷ [])) _ _ c.in_ok-done.done.lines c.write_lines.result
-    (λ lines was. let before = see lines was in leads (after_frame course arrival) c.frame_lines.new.core (frames ++ c.args.frame.now ∷ []) (lines ++ c.in_ok-done.done.lines)
+    breaks_these (InCourse course c.args.self.now frames) (Leads (after_frame course arrival).told (frames ++ c.args.frame.now ∷ [])) _ _ (c.in_ok-done.done.line ∷ c.in_ok-done.done.more) c.write_first_and_more.result
+    (λ lines was. let before = see lines was in leads (after_frame course arrival) c.frame_lines.new.core (frames ++ c.args.frame.now ∷ []) (lines ++ (c.in_ok-done.done.line ∷ c.in_ok-done.done.more))
     (c.in_ok-done.ensures.along course frames lines before.along (ap (λ (n : ℕ). n + 1) before.frames_taken)))
-    c.write_lines.ensures.err
-    (subst (λ (ls : List (List ℕ)). OnErr c.write_lines.result (AppendsFront (g.O.Sink.held c.args.out.now) (g.O.Sink.held c.write_lines.new.out) (concat ls))) c.as_slice.ensures c.write_lines.ensures.front)
+    c.write_first_and_more.ensures.err
+    (subst (λ (ls : List (List ℕ)). OnErr c.write_first_and_more.result (AppendsFront (g.O.Sink.held c.args.out.now) (g.O.Sink.held c.write_first_and_more.new.out) (concat (c.in_ok-done.done.line ∷ ls)))) c.as_slice.ensures c.write_first_and_more.ensures.front)
