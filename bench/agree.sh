@@ -3,12 +3,7 @@
 # on random scripts and captures: bench/agree.sh [CASES], 1000 where no number is given. At the end it says how often each
 # kind of line stood in the reports. Wants Python 3, a C compiler and the proved program: run ./install first, or name
 # another build by APF_RUN. A thousand cases take half a minute. Ends with 1 at the first case in which the two differ.
-set -eu
-top=$(cd "$(dirname "$0")/.." && pwd)
-program=${APF_RUN:-$top/crates/apf_run/out/apf_run}
-[ -x "$program" ] || { echo "No $program: run ./install first." >&2; exit 2; }
-folder=$(mktemp -d)
-trap 'rm -rf "$folder"' EXIT
+. "$(dirname "$0")/setting.bash"
 ${CC:-cc} -O2 -o "$folder/plain_filter" "$top/bench/plain_filter.c"
 cd "$top/bench"
 python3 -B - "$program" "$folder" "${1:-1000}" <<'PYTHON'

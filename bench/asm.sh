@@ -3,12 +3,7 @@
 # gets its width from those behind it. Wants Python 3, and the proved program: run ./install first.
 #
 # Goal: the listing and plain lines in less than one second, labels and the chain in less than two.
-set -eu
-top=$(cd "$(dirname "$0")/.." && pwd)
-program=${APF_RUN:-$top/crates/apf_run/out/apf_run}
-[ -x "$program" ] || { echo "No $program: run ./install first." >&2; exit 2; }
-folder=$(mktemp -d)
-trap 'rm -rf "$folder"' EXIT
+. "$(dirname "$0")/setting.bash"
 python3 - "$program" "$folder" <<'PYTHON'
 import os, subprocess, sys, time
 

@@ -3,12 +3,7 @@
 # file where tcpdump is installed. Wants Python 3, and the proved program: run ./install first.
 #
 # Goal: less time than tcpdump, and at most the capture's size and 16 MiB of memory.
-set -eu
-top=$(cd "$(dirname "$0")/.." && pwd)
-program=${APF_RUN:-$top/crates/apf_run/out/apf_run}
-[ -x "$program" ] || { echo "No $program: run ./install first." >&2; exit 2; }
-folder=$(mktemp -d)
-trap 'rm -rf "$folder"' EXIT
+. "$(dirname "$0")/setting.bash"
 python3 - "$program" "$folder" <<'PYTHON'
 import os, shutil, struct, subprocess, sys, time
 

@@ -11,12 +11,7 @@
 #   - an install costs no more than its code's length and the records held: with codes of three times the length, a byte
 #     of code takes at most 1.25 times as long.
 # Ends with 1 where two reports differ. A goal that is missed is named in the last line.
-set -eu
-top=$(cd "$(dirname "$0")/.." && pwd)
-program=${APF_RUN:-$top/crates/apf_run/out/apf_run}
-[ -x "$program" ] || { echo "No $program: run ./install first." >&2; exit 2; }
-folder=$(mktemp -d)
-trap 'rm -rf "$folder"' EXIT
+. "$(dirname "$0")/setting.bash"
 python3 - "$program" "$folder" "$top/bench/plain_filter.c" <<'PYTHON'
 import os, shutil, struct, subprocess, sys, time
 
