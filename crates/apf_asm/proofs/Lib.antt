@@ -11,7 +11,6 @@ pub mod Narrowing
 pub mod FirstRefusal
 pub mod TextNumbers
 pub mod TextOperands
-pub mod TextSplitting
 pub mod TextTelling
 pub mod TextHex
 pub mod TextWords

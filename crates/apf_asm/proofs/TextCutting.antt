@@ -19,8 +19,9 @@ use Rattle.apf_coding.specs.Names.{name_of}
 use Rattle.apf_asm.specs.declared.item.Target.{Target}
 use Rattle.apf_asm.specs.declared.item.Target.TheVariants as targets
 use Rattle.apf_asm.specs.TextForms.{Form, Label, Load, Arithmetic, ArithmeticR1, Shift, ShiftR1, Signed, LoadSlot, StoreSlot, Complement, Negate, Swap, Move, Jump, Compare, CompareR1, CompareBytes, Dotted, Byte, register_word, target_word, hex_word, dotted_word, second_words, counted_words, words_of, item_of, IsTarget, IsAllowed}
-use Rattle.apf_asm.specs.TextLines.{is_printable, without_comment, words_in, IsRead, lines_of}
-use Rattle.apf_asm.proofs.TextNumbers.{own}
+use Rattle.plain_text.specs.Lines.{lines_of}
+use Rattle.apf_asm.specs.TextLines.{is_printable, without_comment, words_in, IsRead}
+use Rattle.plain_text.proofs.Numerals.{own}
 use Rattle.apf_asm.proofs.TextItems.{word_from}
 
 -- ---- bytes of words

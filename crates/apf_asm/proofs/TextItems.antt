@@ -23,7 +23,8 @@ use Rattle.apf_asm.specs.declared.text_head.Head.{Head}
 use Rattle.apf_asm.specs.declared.text_head.Head.TheVariants as heads
 use Rattle.apf_asm.specs.TextForms.{Form, Label, Load, Arithmetic, ArithmeticR1, Shift, ShiftR1, Signed, LoadSlot, StoreSlot, Complement, Negate, Swap, Move, Jump, Compare, CompareR1, CompareBytes, Dotted, Byte, register_word, target_word, hex_word, dotted_word, second_words, counted_words, words_of, item_of, plain, unsigned, signed, jump, given, is_load, is_arithmetic, is_signed, IsWord, IsTarget, IsAllowed, Denotes}
 use Rattle.apf_asm.specs.TextReading.{number_of, signed_of, register_of, target_of, hex_of, some_bytes, below, fitting, counted, none, one, two, three, two_or_three, load_read, arithmetic_read, shift_read, signed_read, slot_read, register_read, jump_read, compare_r1_read, compare_number_read, compare_read, byte_read, short_read, long_read, simple_read, counted_read, compare_bytes_read, item_read, op_named, other_head, head_of, words_answer}
-use Rattle.apf_asm.proofs.TextNumbers.{own, number_of_is, number_of-decimal}
+use Rattle.plain_text.proofs.Numerals.{own}
+use Rattle.apf_asm.proofs.TextNumbers.{number_of_is, number_of-decimal}
 use Rattle.apf_asm.proofs.TextWords.{Hex, chosen, register_of_is, register_of-word, below_is, below-decimal, fitting_is, fitting-decimal, signed_of_is, signed_of-decimal, target_of_is, target_of-word, hex_of_is, hex_of-word, counted_is, counted-word, some_bytes_is, some_bytes-some}
 use Rattle.apf_asm.proofs.TextHeads.{IsHead, head_of-label, head_of-dotted, head_of-load, head_of-arithmetic, head_of-signed, head_of-compare}
 

@@ -17,7 +17,8 @@ use Rattle.apf_asm.specs.declared.text_head.Head.{Head}
 use Rattle.apf_asm.specs.declared.text_head.Head.TheVariants as heads
 use Rattle.apf_asm.specs.TextAnswers.{Tells}
 use Rattle.apf_asm.specs.TextForms.{Form, Label, Load, ArithmeticR1, ShiftR1, Signed, LoadSlot, StoreSlot, Complement, Negate, Swap, Move, Jump, CompareR1, CompareBytes, Dotted, Byte, words_of, item_of, IsAllowed, Denotes, IsKnown}
-use Rattle.apf_asm.specs.TextLines.{is_printable, words_in, Stands, IsRead, AreRefused, IsRefused, lines_of, AreRead, Reads, Refuses}
+use Rattle.plain_text.specs.Lines.{lines_of}
+use Rattle.apf_asm.specs.TextLines.{is_printable, words_in, Stands, IsRead, AreRefused, IsRefused, AreRead, Reads, Refuses}
 use Rattle.apf_asm.specs.TextReading.{head_of, item_read, operand_answer, head_answer, words_answer, line_answer, with_front, goes_on, lines_answer, text_answer}
 use Rattle.apf_asm.proofs.TextHeads.{IsHead, head_of_is}
 use Rattle.apf_asm.proofs.TextItems.{item_is, form_again, one_fits}

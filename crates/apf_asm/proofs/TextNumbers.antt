@@ -1,58 +1,10 @@
--- A word of digits is the decimal text of its number.
-use Rattle.std.proofs.Common.{◌≡◌, ℕ, zero, suc, ◌^◌, ◌<◌, Bool, true, false, ◌&&◌, ◌||◌, cond, eqb, ltb, List, length, get_or, Option, Some, None, Result, Ok, Err, refl, sym, ap, subst, ◌∙◌, arith, rules, inl, inr}
-use Rattle.std.specs.Prelude.{MatchResult}
-use Rattle.std.specs.Char.{is_ascii_digit}
-use Rattle.std.specs.List.{list_all}
-use Rattle.std.specs.Result.{result_ok, OkIff}
+-- A word that is a number of 32 bits is the decimal text of its number.
+use Rattle.std.proofs.Common.{◌≡◌, ℕ, ◌^◌, ◌<◌, Bool, true, false, cond, ltb, List, Option, Some, None, refl, sym, subst, arith}
 use Rattle.std.specs.Fmt.{decimal}
-use Rattle.std.specs.Str.{IsUtf8}
-use Rattle.std.specs.Str.Parse.{digits_value, ParsesUnsigned}
-use Rattle.std.proofs.lemmas.Bool.{or_parts, eqb-true, eqb-false, ltb-true, ltb-false, lt-ltb, le-ltb, ne_eqb, cases_lt}
-use Rattle.std.proofs.lemmas.Fmt.{decimal_digit, decimal_nonempty, first_decimal, digits_decimal, digits_value-decimal, decimal-digits_value, IsAscii-from_digits}
-use Rattle.std.proofs.lemmas.Str.{IsUtf8-from_ascii}
-use Rattle.std.proofs.lemmas.Str.Parse.{IsNumeralModel, numerals_by_value, parse_digits}
+use Rattle.std.proofs.lemmas.Bool.{ltb-true, lt-ltb}
+use Rattle.plain_text.proofs.Numerals as numerals
 use Rattle.apf_coding.specs.Reading.{Reads}
-use Rattle.apf_asm.specs.TextReading.{is_numeral, word_below, number_of}
-
--- the words of `parse` for digits
-pub own : IsNumeralModel (λ ds. list_all is_ascii_digit ds ≡ true) (digits_value 10)
-own = numerals_by_value _ (search rules)
-
--- ---- what a numeral is
-
-pub record Numeral (word : List ℕ) : Type 0 where
-  pub digits : list_all is_ascii_digit word ≡ true
-  pub some : 0 < length word
-  pub front : get_or word 0 0 ≡ 48 → length word ≡ 1
-
-guarded : (a b : Bool) → cond a false b ≡ true → (a ≡ false) × (b ≡ true)
-guarded true b e = absurd cc
-guarded false b e = (refl, e)
-
-front_from : (first long : Bool) (word : List ℕ) → eqb (get_or word 0 0) 48 ≡ first → ltb 1 (length word) ≡ long → (first && long) ≡ false → 0 < length word → get_or word 0 0 ≡ 48 → length word ≡ 1
-front_from true true word p q e some nought = absurd cc
-front_from true false word p q e some nought = let le = ltb-false 1 (length word) q in omega arith
-front_from false long word p q e some nought = absurd (eqb-false _ _ p nought)
-
-pub numeral_parts : (word : List ℕ) → is_numeral word ≡ true → Numeral word
-numeral_parts word e =
-    let g = guarded (eqb (length word) 0 || (eqb (get_or word 0 0) 48 && ltb 1 (length word))) (list_all is_ascii_digit word) e in
-    let parts = or_parts (eqb (length word) 0) (eqb (get_or word 0 0) 48 && ltb 1 (length word)) g.0 in
-    let none = eqb-false (length word) 0 parts.0 in
-    let some : 0 < length word = omega (arith, none) in
-    record { digits = g.1; some = some; front = front_from (eqb (get_or word 0 0) 48) (ltb 1 (length word)) word refl refl parts.1 some }
-
-short : (word : List ℕ) (first : Bool) → eqb (get_or word 0 0) 48 ≡ first → (get_or word 0 0 ≡ 48 → length word ≡ 1) → (first && ltb 1 (length word)) ≡ false
-short word true e front = le-ltb 1 (length word) (let one = front (eqb-true _ _ e) in omega arith)
-short word false e front = refl
-
-pub numeral_from : (word : List ℕ) → Numeral word → is_numeral word ≡ true
-numeral_from word n =
-    let some = n.some in
-    let none : eqb (length word) 0 ≡ false = ne_eqb _ _ (λ e. omega arith) in
-    rw (none, short word (eqb (get_or word 0 0) 48) refl n.front) n.digits
-
--- ---- the number
+use Rattle.apf_asm.specs.TextReading.{word_below, number_of}
 
 below_cases : (bound n m : ℕ) (b : Bool) → ltb n bound ≡ b → cond b (Some n) None ≡ Some m → (m < bound) × (n ≡ m)
 below_cases bound n m true test e = let same : n ≡ m = cc in (subst (λ (k : ℕ). k < bound) same (ltb-true n bound test), same)
@@ -64,63 +16,13 @@ word_below_is bound n m e = below_cases bound n m (ltb n bound) refl e
 pub word_below-lt : (bound n : ℕ) → n < bound → word_below bound n ≡ Some n
 word_below-lt bound n lt = rw (lt-ltb n bound lt) refl
 
-if_some : {A : Type 0} (b : Bool) (x : Option A) (y : A) → cond b x None ≡ Some y → (b ≡ true) × (x ≡ Some y)
-if_some true x y e = (refl, e)
-if_some false x y e = absurd cc
-
 -- a word that is a number is the number's text
 pub number_of_is : (word : List ℕ) (n : ℕ) → number_of word ≡ Some n → (n < 2 ^ 32) × (word ≡ decimal n)
-unfolding number_of
-number_of_is word n e =
-    let g = if_some (is_numeral word) (word_below (2 ^ 32) (digits_value 10 word)) n e in
-    let b = word_below_is (2 ^ 32) (digits_value 10 word) n g.1 in
-    let p = numeral_parts word g.0 in
-    let small : digits_value 10 word < 2 ^ 64 = let lt = b.0 in let same = b.1 in omega arith in
-    (b.0, sym (decimal-digits_value own word p.digits p.some p.front small) ∙ ap decimal b.1)
-
--- only the text of 0 begins with a zero
-front_of : (n : ℕ) → n < 2 ^ 64 → get_or (decimal n) 0 0 ≡ 48 → length (decimal n) ≡ 1
-front_of zero small e = ap length (decimal_digit 0 (omega arith))
-front_of (suc n) small e = let first = first_decimal (suc n) (omega arith) small in absurd (omega arith)
+number_of_is word n e = let p = numerals.number_of_is 4294967295 word n (omega arith) e in ((let most = p.0 in omega arith), p.1)
 
 -- the text of a number is that number
 pub number_of-decimal : (n : ℕ) → n < 2 ^ 32 → number_of (decimal n) ≡ Some n
-unfolding number_of
-number_of-decimal n lt =
-    let small : n < 2 ^ 64 = omega arith in
-    let some = decimal_nonempty n small in
-    let p : Numeral (decimal n) = record { digits = digits_decimal own n small; some = some; front = front_of n small } in
-    rw (numeral_from (decimal n) p, digits_value-decimal own n small) (word_below-lt (2 ^ 32) n lt)
-
--- ---- what `parse` answers
-
-value_cases : {E : Type 0} (r : Result ℕ E) (P : Type 0) (n : ℕ) → P → OkIff r (P × (n < 2 ^ 32)) n → result_ok r ≡ word_below (2 ^ 32) n
-value_cases (Ok x) P n p h = rw (h.1, word_below-lt (2 ^ 32) n h.0.1) refl
-value_cases (Err e) P n p h = elim (cases_lt n (2 ^ 32)) [ inl lt ↦ absurd (h (p, lt)) | inr le ↦ rw (le-ltb n (2 ^ 32) le) refl ]
-
-pub parsed : {E : Type 0} (word bs : List ℕ) (r : Result ℕ E) → is_numeral word ≡ true → bs ≡ word → ParsesUnsigned 32 10 bs r → result_ok r ≡ number_of word
-unfolding number_of
-parsed word bs r e same h =
-    let p = numeral_parts word e in
-    let read = parse_digits own 32 word r (rw same at h) p.digits in
-    rw e (value_cases r (0 < length word) (digits_value 10 word) p.some read)
-
--- digits are text
-pub numeral_is_text : (word : List ℕ) → is_numeral word ≡ true → IsUtf8 word
-numeral_is_text word e = IsUtf8-from_ascii word (IsAscii-from_digits word (own.to word (numeral_parts word e).digits))
-
-pub not_numeral : (word : List ℕ) → is_numeral word ≡ false → number_of word ≡ None
-unfolding number_of
-not_numeral word e = rw e refl
-
--- a text that was checked has the bytes that were
-pub same_text : {S E : Type 0} (now : S → List ℕ) (r : Result S E) (x : S) (bs : List ℕ) (P : Type 0) (Q : E → Type 0) → result_ok r ≡ Some x → MatchResult r (λ s. (now s ≡ bs) × P) Q → now x ≡ bs
-same_text now (Ok s) x bs P Q e h = let same : s ≡ x = cc in subst (λ t. now t ≡ bs) same h.0
-same_text now (Err s) x bs P Q e h = absurd cc
-
-pub no_text : {S E : Type 0} (r : Result S E) (P : S → Type 0) (T : Type 0) (Q : E → Type 0) → result_ok r ≡ None → MatchResult r P (λ e. (T → ⊥) × Q e) → T → ⊥
-no_text (Ok s) P T Q e h t = absurd cc
-no_text (Err s) P T Q e h t = h.0 t
+number_of-decimal n lt = numerals.number_of-decimal 4294967295 n (omega arith) (omega arith)
 
 pub Reads_from : (o read : Option ℕ) → o ≡ read → Reads (λ (n : ℕ). n) o read
 Reads_from (Some x) read e = sym e

@@ -1,8 +1,7 @@
 -- The items of a text are well formed, and no more than it has bytes.
-use Rattle.std.proofs.Common.{◌≡◌, ℕ, suc, ◌+◌, ◌-◌, ◌^◌, ◌<◌, ◌≤◌, Bool, true, false, cond, eqb, ltb, List, [], ◌∷◌, length, Option, Some, None, refl, sym, ap, subst, ◌∙◌, arith, inl, inr}
+use Rattle.std.proofs.Common.{◌≡◌, ℕ, ◌+◌, ◌-◌, ◌^◌, ◌<◌, ◌≤◌, Bool, true, false, cond, eqb, ltb, List, [], ◌∷◌, length, Option, Some, None, refl, sym, ap, subst, ◌∙◌, arith, inl, inr}
 use Rattle.std.specs.Prelude.{ℤ, pos, negsuc, FitsSigned, All, slice_index}
 use Rattle.std.specs.Int.{w32}
-use Rattle.std.specs.List.{onto_first}
 use Rattle.std.specs.Option.{option_to_list}
 use Rattle.std.proofs.lemmas.Bool.{eqb-true, ltb-true}
 use Rattle.std.proofs.lemmas.List.{length-append}
@@ -17,8 +16,10 @@ use Rattle.apf_asm.specs.declared.item.Target.{Target}
 use Rattle.apf_asm.specs.declared.item.Item.{Item}
 use Rattle.apf_asm.specs.Items.{IsItemForm}
 use Rattle.apf_asm.specs.TextForms.{Form, Label, Load, Arithmetic, ArithmeticR1, Shift, ShiftR1, Signed, LoadSlot, StoreSlot, Complement, Negate, Swap, Move, Jump, Compare, CompareR1, CompareBytes, Dotted, Byte, item_of, immediate, plain, unsigned, signed, jump, IsWord, IsAllowed, Denotes}
-use Rattle.apf_asm.specs.TextLines.{lines_of, Stands, AreRead, Reads}
+use Rattle.plain_text.specs.Lines.{lines_of}
+use Rattle.apf_asm.specs.TextLines.{Stands, AreRead, Reads}
 use Rattle.apf_asm.proofs.TextItems.{one_fits}
+use Rattle.plain_text.proofs.LineCounts as line_counts
 
 -- ---- instructions without a second immediate and without bytes
 
@@ -158,17 +159,5 @@ lines_few (line ∷ lines) items r =
     let more = lines_few lines r.1 r.3 in
     omega (arith, ap length r.4, length-append (option_to_list r.0) r.1)
 
-onto_few : (b : ℕ) (lines : List (List ℕ)) → length (onto_first b lines) ≤ suc (length lines)
-onto_few b [] = omega arith
-onto_few b (line ∷ lines) = omega arith
-
-feed_few : (yes : Bool) (b : ℕ) (lines : List (List ℕ)) → length (cond yes ([] ∷ lines) (onto_first b lines)) ≤ suc (length lines)
-feed_few true b lines = omega arith
-feed_few false b lines = onto_few b lines
-
-lines_of_few : (text : List ℕ) → length (lines_of text) ≤ length text
-lines_of_few [] = omega arith
-lines_of_few (b ∷ rest) = let here = feed_few (eqb b 10) b (lines_of rest) in let more = lines_of_few rest in omega arith
-
 pub text_few : (text : List ℕ) (items : List Item) → Reads text items → length items ≤ length text
-text_few text items r = let a = lines_few (lines_of text) items r in let b = lines_of_few text in omega arith
+text_few text items r = let a = lines_few (lines_of text) items r in let b = line_counts.lines_few text in omega arith

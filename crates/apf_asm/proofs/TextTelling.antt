@@ -8,7 +8,7 @@ use Rattle.apf_asm.specs.declared.text_error.TextKind.{TextKind}
 use Rattle.apf_asm.specs.declared.text_error.TextError.{TextError}
 use Rattle.apf_asm.specs.declared.text_error.TextError.TheVariants.{Bad, OutOfMemory}
 use Rattle.apf_asm.specs.TextAnswers.{Adds, Tells}
-use Rattle.apf_asm.specs.TextLines.{lines_of}
+use Rattle.plain_text.specs.Lines.{lines_of}
 use Rattle.apf_asm.specs.TextReading.{line_answer, with_front, goes_on, lines_answer}
 
 with_front-with_front : (a b : List Item) (r : Result (List Item) TextError) → with_front a (with_front b r) ≡ with_front (a ++ b) r

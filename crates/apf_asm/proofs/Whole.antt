@@ -53,7 +53,7 @@ beside_cases true true n m w no_m no_n width a b le apart = absurd (false≢true
 beside_cases true false n m w no_m no_n width a b le apart = (wider n w width a le, rw (no_m refl) (wider 0 w width (omega arith) (omega arith)))
 beside_cases false has n m w no_m no_n width a b le apart = (rw (no_n refl) (wider 0 w width (omega arith) (omega arith)), wider m w width b le)
 
-not_both : (op : Op) (reg : ℕ) → has_second op reg ≡ true → is_counted op ≡ false
+pub not_both : (op : Op) (reg : ℕ) → has_second op reg ≡ true → is_counted op ≡ false
 not_both Jnebs reg e = absurd cc
 not_both _ reg e = refl
 

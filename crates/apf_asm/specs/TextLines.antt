@@ -1,11 +1,12 @@
 -- Assembler text as lines, and lines as words: which text stands for which items, and which line is refused.
-use Rattle.std.specs.Prelude.{◌≡◌, ℕ, ◌+◌, ◌&&◌, ◌==◌, nat_le, not, if◌then◌else◌, Bool, List, [], ◌∷◌, ◌++◌, length, filter, Option, Some, None}
-use Rattle.std.specs.List.{AllPass, slice_split, onto_first, before_first}
+use Rattle.std.specs.Prelude.{◌≡◌, ℕ, ◌+◌, ◌&&◌, ◌==◌, nat_le, not, Bool, List, [], ◌∷◌, ◌++◌, length, filter, Option, Some, None}
+use Rattle.std.specs.List.{AllPass, slice_split, before_first}
 use Rattle.std.specs.Option.{option_to_list}
 use Rattle.apf_asm.specs.declared.item.Item.{Item}
 use Rattle.apf_asm.specs.declared.text_error.TextKind.{TextKind}
 use Rattle.apf_asm.specs.declared.text_error.TextKind.TheVariants.{Ascii, Word, Operand}
 use Rattle.apf_asm.specs.TextForms.{Denotes, IsKnown}
+use Rattle.plain_text.specs.Lines.{lines_of}
 
 -- ---- a line
 
@@ -46,11 +47,6 @@ IsRefused line Word = AllPass is_printable line × AreRefused (words_in line) Wo
 IsRefused line Operand = AllPass is_printable line × AreRefused (words_in line) Operand
 
 -- ---- a text
-
--- the lines: a line feed ends each, and maybe not the last
-abbrev pub lines_of : List ℕ → List (List ℕ)
-lines_of [] = []
-lines_of (b ∷ rest) = if b == 10 then [] ∷ lines_of rest else onto_first b (lines_of rest)
 
 -- each line stands for its item or for nothing
 abbrev pub AreRead : List (List ℕ) → List Item → Type 0

@@ -1,11 +1,9 @@
 -- Assembler text by functions that compute: what a text stands for, or its first refused line.
-use Rattle.std.specs.Prelude.{ℕ, ℤ, pos, neg_ℤ, ◌+◌, ◌-◌, ◌^◌, ◌&&◌, ◌||◌, ◌==◌, nat_lt, nat_le, if◌then◌else◌, Bool, false, List, [], ◌∷◌, ◌++◌, length, slice_index, take, drop, codes, Option, Some, None, Result, Ok, Err}
+use Rattle.std.specs.Prelude.{ℕ, ℤ, pos, neg_ℤ, ◌+◌, ◌-◌, ◌&&◌, ◌==◌, nat_lt, nat_le, if◌then◌else◌, Bool, List, [], ◌∷◌, ◌++◌, length, slice_index, take, drop, codes, Option, Some, None, Result, Ok, Err}
 use Rattle.std.specs.List.{find, list_all, list_any}
 use Rattle.std.specs.Option.{option_to_list}
 use Rattle.std.specs.Result.{result_ok}
-use Rattle.std.specs.Char.{is_ascii_digit}
 use Rattle.std.specs.Str.{bytes_eq}
-use Rattle.std.specs.Str.Parse.{digits_value}
 use Rattle.hex.specs.Hex.{decode_of}
 use Rattle.apf_coding.specs.declared.instruction.Op.{Op}
 use Rattle.apf_coding.specs.declared.instruction.Op.TheVariants.{Ldb, Ldh, Ldw, Ldbx, Ldhx, Ldwx, Add, Mul, Div, And, Or, Sh, Li, Jmp, Jeq, Jne, Jgt, Jlt, Jset, Jnebs, Ext, Lddw, Stdw}
@@ -24,19 +22,18 @@ use Rattle.apf_asm.specs.declared.text_error.TextError.TheVariants.{Bad}
 use Rattle.apf_asm.specs.declared.text_head.Head.{Head}
 use Rattle.apf_asm.specs.declared.text_head.Head.TheVariants as heads
 use Rattle.apf_asm.specs.TextForms.{plain, unsigned, signed, jump, given}
-use Rattle.apf_asm.specs.TextLines.{is_printable, words_in, lines_of}
+use Rattle.plain_text.specs.Lines.{lines_of}
+use Rattle.apf_asm.specs.TextLines.{is_printable, words_in}
+use Rattle.plain_text.specs.Numbers as numbers
 
 -- ---- words
-
--- digits of which the first isn't a surplus zero
-abbrev pub is_numeral : List ℕ → Bool
-is_numeral word = if (length word == 0) || ((slice_index word 0 == 48) && nat_lt 1 (length word)) then false else list_all is_ascii_digit word
 
 abbrev pub word_below : ℕ → ℕ → Option ℕ
 word_below bound n = if nat_lt n bound then Some n else None
 
-unfoldable pub number_of : List ℕ → Option ℕ
-number_of word = if is_numeral word then word_below (2 ^ 32) (digits_value 10 word) else None
+-- the number of 32 bits that a word spells
+abbrev pub number_of : List ℕ → Option ℕ
+number_of word = numbers.number_of 4294967295 word
 
 abbrev pub negative : ℕ → Option ℤ
 negative n = if nat_lt 0 n && nat_le n 2147483648 then Some (neg_ℤ (pos n)) else None

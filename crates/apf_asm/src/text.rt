@@ -4,7 +4,8 @@ ghost use Rattle.std.specs.Prelude.{◌≡◌, ◌<◌, ◌≤◌, ◌∷◌, �
 ghost use Rattle.apf_asm.specs.declared.item.Item.{Item};
 ghost use Rattle.apf_asm.specs.Items.{IsItemForm};
 ghost use Rattle.apf_asm.specs.declared.text_error.TextKind.{TextKind};
-ghost use Rattle.apf_asm.specs.TextLines.{lines_of, Reads, Refuses};
+ghost use Rattle.plain_text.specs.Lines.{lines_of};
+ghost use Rattle.apf_asm.specs.TextLines.{Reads, Refuses};
 ghost use Rattle.apf_asm.specs.TextAnswers.{Adds, Tells};
 ghost use Rattle.apf_asm.specs.TextReading.{line_answer, text_answer};
 
@@ -12,19 +13,8 @@ use crate::Item;
 use crate::text_error::TextError;
 use crate::text_line::{Refusal, line_item};
 use apf_base::List;
+use plain_text::first_line;
 use std::alloc::Global;
-
-/// The first line, without its line feed, and the text behind it.
-fn first_line(text: &[u8]) -> (&[u8], &[u8])
-    requires { 0 < length text.now }
-    ensures lines { lines_of text.now ≡ result.0.now ∷ lines_of result.1.now }
-    ensures shorter { length result.1.now < length text.now }
-{
-    match text.iter().position(|b| *b == b'\n') {
-        Some(at) => (&text[..at], &text[at + 1..]),
-        None => (text, &[]),
-    }
-}
 
 /// Adds what a line stands for to the items. The line has this number.
 fn add_line(

@@ -1,37 +1,17 @@
 //! Words of a line that are numbers, registers and targets.
 
 ghost use Rattle.std.specs.Prelude.{◌≡◌, ◌≤◌};
-ghost use Rattle.std.specs.Char.{is_ascii_digit};
-ghost use Rattle.std.specs.List.{list_all};
 ghost use Rattle.apf_coding.specs.Reading.{Reads};
-ghost use Rattle.apf_asm.specs.TextReading.{is_numeral, number_of, signed_of, register_of, target_of, below};
+ghost use Rattle.apf_asm.specs.TextReading.{number_of, signed_of, register_of, target_of, below};
 
 use crate::Target;
-
-fn are_digits(word: &[u8]) -> bool
-    ensures { result ≡ list_all is_ascii_digit word.now }
-{
-    word.iter().all(|c| c.is_ascii_digit())
-}
-
-/// Whether all bytes are digits, and the first is no surplus zero.
-fn is_numeral(word: &[u8]) -> bool
-    ensures { result ≡ is_numeral word.now }
-{
-    match word {
-        [] | [b'0', _, ..] => false,
-        _ => are_digits(word),
-    }
-}
+use plain_text::read_decimal;
 
 /// A decimal number without leading zeros.
 pub(crate) fn number(word: &[u8]) -> Option<u32>
     ensures { Reads (λ x. x) result (number_of word.now) }
 {
-    if !is_numeral(word) {
-        return None;
-    }
-    str::from_utf8(word).ok()?.parse().ok()
+    read_decimal(word, u32::MAX)
 }
 
 /// A decimal number that may begin with `-`. There is no `-0`.

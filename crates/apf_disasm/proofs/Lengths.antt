@@ -1,9 +1,8 @@
 -- A listing has at most 26 bytes for a byte of code.
-use Rattle.std.proofs.Common.{◌≡◌, ℕ, ◌+◌, ◌*◌, ◌^◌, ◌<◌, ◌≤◌, Bool, true, false, cond, eqb, List, [], ◌∷◌, ◌++◌, length, refl, ap, subst, arith, inl, inr}
+use Rattle.std.proofs.Common.{◌≡◌, ℕ, ◌+◌, ◌*◌, ◌^◌, ◌<◌, ◌≤◌, Bool, true, false, cond, List, [], ◌∷◌, ◌++◌, length, refl, ap, subst, arith, inl, inr}
 use Rattle.std.specs.Prelude.{codes}
 use Rattle.std.specs.Fmt.{decimal}
 use Rattle.std.specs.List.{AllByRecursion, flat_map}
-use Rattle.std.proofs.lemmas.Bool.{and_parts}
 use Rattle.std.proofs.lemmas.Fmt.{length-decimal-le}
 use Rattle.std.proofs.lemmas.List.{length-append, length-drop}
 use Rattle.hex.specs.Hex.{encode_lower, lower_digits}
@@ -11,7 +10,7 @@ use Rattle.hex.proofs.HexLemmas.{length-encode_with}
 use Rattle.apf_coding.specs.declared.instruction.Op.{Op}
 use Rattle.apf_coding.specs.declared.instruction.Op.TheVariants.{Ldb, Ldh, Ldw, Ldbx, Ldhx, Ldwx, Add, Mul, Div, And, Or, Sh, Li, Jmp, Jeq, Jne, Jgt, Jlt, Jset, Jnebs, Ext, Lddw, Stdw}
 use Rattle.apf_coding.specs.Words.{big_endian}
-use Rattle.apf_coding.specs.Instruction.{Instruction, IsWidth, IsWellFormed, is_conditional, has_second, is_counted, spelling, first_byte, second_of, counted_of}
+use Rattle.apf_coding.specs.Instruction.{Instruction, IsWidth, IsWellFormed, has_second, is_counted, spelling, first_byte, second_of, counted_of}
 use Rattle.apf_coding.specs.Names.{name_of}
 use Rattle.apf_coding.proofs.Numbers.{length-big_endian}
 use Rattle.apf_disasm.specs.Listing as listing
@@ -20,6 +19,7 @@ use Rattle.apf_disasm.specs.Printing.{line_text, listing_text, second_text, coun
 use Rattle.apf_disasm.proofs.Entries.{IsGood}
 use Rattle.apf_disasm.proofs.Layouts.{bytes_of, listed_bytes}
 use Rattle.apf_disasm.proofs.Parts.{written_is}
+use Rattle.apf_asm.proofs.Whole.{not_both}
 
 -- ---- the parts
 
@@ -132,38 +132,10 @@ head_length name width reg imm =
 -- at most 26 bytes of text for a byte of code, by whether there is a second immediate and counted bytes
 fits_26 : (has count : Bool) (name w d r n s b p size bytes : ℕ) → (has ≡ true → count ≡ false) → (count ≡ false → name ≤ 4) → name ≤ 5 → d ≤ 1 → r ≤ 1 → n ≤ 1 + 5 * w → s ≤ cond has (2 + 5 * w) 0 → b ≤ cond count (2 + 2 * bytes) 0 → p ≤ 12
     → size ≡ 1 + w + cond has w 0 + cond count (w + bytes) 0 → name + d + r + n + 4 + s + b + p ≤ 26 * size
-fits_26 true true name w d r n s b p size bytes apart short five dl rl nl sl bl pl e = absurd (let no = apart refl in let clash : true ≡ false = no in absurd cc)
-fits_26 true false name w d r n s b p size bytes apart short five dl rl nl sl bl pl e = let four = short refl in omega arith
-fits_26 false true name w d r n s b p size bytes apart short five dl rl nl sl bl pl e = omega arith
-fits_26 false false name w d r n s b p size bytes apart short five dl rl nl sl bl pl e = let four = short refl in omega arith
-
-not_both : (op : Op) → is_conditional op ≡ true → is_counted op ≡ false
-not_both Ldb t = absurd cc
-not_both Ldh t = absurd cc
-not_both Ldw t = absurd cc
-not_both Ldbx t = absurd cc
-not_both Ldhx t = absurd cc
-not_both Ldwx t = absurd cc
-not_both Add t = absurd cc
-not_both Mul t = absurd cc
-not_both Div t = absurd cc
-not_both And t = absurd cc
-not_both Or t = absurd cc
-not_both Sh t = absurd cc
-not_both Li t = absurd cc
-not_both Jmp t = absurd cc
-not_both Jeq t = refl
-not_both Jne t = refl
-not_both Jgt t = refl
-not_both Jlt t = refl
-not_both Jset t = refl
-not_both Jnebs t = absurd cc
-not_both Ext t = absurd cc
-not_both Lddw t = absurd cc
-not_both Stdw t = absurd cc
-
-apart : (op : Op) (reg : ℕ) → has_second op reg ≡ true → is_counted op ≡ false
-apart op reg e = not_both op (and_parts (is_conditional op) (eqb reg 0) e).0
+fits_26 true true name w d r n s b p size bytes not_both short five dl rl nl sl bl pl e = absurd (let no = not_both refl in let clash : true ≡ false = no in absurd cc)
+fits_26 true false name w d r n s b p size bytes not_both short five dl rl nl sl bl pl e = let four = short refl in omega arith
+fits_26 false true name w d r n s b p size bytes not_both short five dl rl nl sl bl pl e = omega arith
+fits_26 false false name w d r n s b p size bytes not_both short five dl rl nl sl bl pl e = let four = short refl in omega arith
 
 five : (op : Op) (b : Bool) → is_counted op ≡ b → length (name_of op) ≤ 5
 five op true e = counted_name op e
@@ -179,7 +151,7 @@ line_length at i good place =
     let sum : length (instruction_line at i) ≡ length front + length (second_text i) + length (counted_text i) + length (place_text at) =
     omega (arith, length-append (front ++ second_text i ++ counted_text i) (place_text at), length-append (front ++ second_text i) (counted_text i), length-append front (second_text i)) in
     let bound = fits_26 (has_second i.op i.reg) (is_counted i.op) (length (name_of i.op)) i.width (length (decimal i.width)) (length (decimal i.reg)) (length (decimal i.imm)) (length (second_text i)) (length (counted_text i)) (length (place_text at)) (length (spelling i)) (length i.bytes)
-    (apart i.op i.reg) (name_short i.op) (five i.op (is_counted i.op) refl) (one_digit i.width small) (one_digit i.reg (omega arith)) (number_length i.imm i.width width good.imm)
+    (not_both i.op i.reg) (name_short i.op) (five i.op (is_counted i.op) refl) (one_digit i.width small) (one_digit i.reg (omega arith)) (number_length i.imm i.width width good.imm)
     (second_length (has_second i.op i.reg) i.second i.width width good.second) (counted_length (is_counted i.op) i.bytes good.no_bytes) (place_length at place) (spelling_length i) in
     omega arith
 

@@ -6,7 +6,8 @@ use Rattle.std.specs.List.{AllByRecursion, join_with_byte, list_all}
 use Rattle.std.proofs.lemmas.Bool.{and_from}
 use Rattle.std.proofs.lemmas.List.Folds.{list_all-append}
 use Rattle.apf_asm.specs.TextForms.{words_of, item_of}
-use Rattle.apf_asm.specs.TextLines.{is_printable, lines_of, AreRead}
+use Rattle.plain_text.specs.Lines.{lines_of}
+use Rattle.apf_asm.specs.TextLines.{is_printable, AreRead}
 use Rattle.apf_asm.proofs.TextCutting.{commented, commented_printable, form_plain, form_read, lines_of-line, digits_printable}
 use Rattle.apf_disasm.specs.Listing.{Entry}
 use Rattle.apf_disasm.specs.Printing.{form_of, place_of, line_text, listing_text}

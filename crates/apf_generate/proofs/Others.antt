@@ -1,5 +1,5 @@
 -- The items for all other frames say what their question answers.
-use Rattle.std.proofs.Common.{◌≡◌, ℕ, Bool, true, false, cond, not, List, [], Option, Some, None, refl, arith, lit<, lit≤}
+use Rattle.std.proofs.Common.{◌≡◌, ℕ, cond, not, List, [], Option, Some, None, refl, arith, lit<, lit≤}
 use Rattle.std.specs.Prelude.{bytes_eq}
 use Rattle.apf_coding.specs.declared.instruction.Op.TheVariants.{Li}
 use Rattle.apf_coding.specs.declared.machine.Verdict.TheVariants.{Pass, Drop}
@@ -19,15 +19,12 @@ use Rattle.rule_items.specs.Rulings.{said_of}
 use Rattle.rule_items.proofs.Rulings.{rulings}
 use Rattle.rule_items.proofs.Rulings.{sound-counting}
 use Rattle.apf_generate.specs.Listing.{last_items}
+use Rattle.ip_rules.proofs.Ip4Ruling.{cond-not}
 
 -- ---- the rulings as the items come to them are those of the table
 
 abbrev last_of : Option (List ℕ) → Ruling
 last_of mac = reading mac (λ there. cond (not (bytes_eq there broadcast)) (Says Pass PassedNonIpUnicast) (Says Drop DroppedEthBroadcast))
-
-cond-not : (b : Bool) (x y : Ruling) → cond (not b) x y ≡ cond b y x
-cond-not true x y = refl
-cond-not false x y = refl
 
 last_same : (mac : Option (List ℕ)) → last_of mac ≡ reading mac (λ there. cond (bytes_eq there broadcast) (Says Drop DroppedEthBroadcast) (Says Pass PassedNonIpUnicast))
 last_same None = refl

@@ -3,6 +3,7 @@ use Rattle.std.proofs.Common.{◌≡◌, ℕ, ◌+◌, ◌-◌, ◌≤◌, Bool,
 use Rattle.std.specs.Prelude.{◌&&◌, ◌||◌, ◌==◌, nat_lt, nat_le, bytes_eq, slice_range}
 use Rattle.std.specs.List.{list_all, AllByRecursion}
 use Rattle.std.proofs.lemmas.Bool.Decides.{nat_tests}
+use Rattle.std.proofs.lemmas.Bool.{and_parts}
 use Rattle.apf_coding.specs.declared.instruction.Op.TheVariants.{Ldh, Ldw, Jgt, Jne, Jlt, Ext}
 use Rattle.apf_coding.specs.declared.machine.Verdict.TheVariants.{Drop}
 use Rattle.apf_coding.specs.Meaning.{State}
@@ -87,15 +88,11 @@ width_cases false false n e f h = absurd cc
 width-is : (s : Span) → is_number s ≡ true → width_of s ≡ s.len
 width-is s h = width_cases (eqb s.len 2) (eqb s.len 4) s.len refl refl h
 
-and_true : (a b : Bool) → (a && b) ≡ true → (a ≡ true) × (b ≡ true)
-and_true true b h = (refl, h)
-and_true false b h = absurd cc
-
 lifetimes_table : (hold : ℕ) (frame : List ℕ) (ss : List Span) → AllByRecursion (IsNumber (length frame)) ss → list_all is_number ss ≡ true
     → lifetime_tree hold frame ss ≡ when (list_all (lasts hold frame) ss) drops
 lifetimes_table hold frame [] h k = refl
 lifetimes_table hold frame (s ∷ ss) h k =
-    let parts = and_true (is_number s) (list_all is_number ss) k in
+    let parts = and_parts (is_number s) (list_all is_number ss) k in
     ap (λ (w : ℕ). reading (field frame s.at w) (λ v. cond (nat_lt v hold) Silent (lifetime_tree hold frame ss))) (width-is s parts.0)
     ∙ number_there frame s.at s.len (λ v. cond (nat_lt v hold) Silent (lifetime_tree hold frame ss)) h.0.within
     ∙ away_cases (nat_lt (number_in frame s) hold) (lifetime_tree hold frame ss) (when (list_all (lasts hold frame) ss) drops) (λ e. lifetimes_table hold frame ss h.1 parts.1)

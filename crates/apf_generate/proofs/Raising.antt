@@ -5,7 +5,7 @@ use Rattle.std.proofs.lemmas.Bool.Decides.{nat_tests}
 use Rattle.apf_coding.specs.declared.instruction.Op.TheVariants.{Lddw, Stdw, Add}
 use Rattle.apf_coding.specs.declared.machine.FaultKind.TheVariants.{Memory}
 use Rattle.apf_coding.specs.Words.{number, big_endian, word}
-use Rattle.apf_coding.specs.Meaning.{State, Meaning, Next, Fault, meaning, load_data, store_data}
+use Rattle.apf_coding.specs.Meaning.{State, Next, Fault, meaning, load_data, store_data}
 use Rattle.apf_asm.specs.declared.item.Item.{Item}
 use Rattle.data_counters.specs.declared.counter.Counter.{Counter}
 use Rattle.data_counters.specs.Counters.{number_of}
@@ -13,6 +13,7 @@ use Rattle.data_counters.specs.Memory.{place_of, value_of, raised}
 use Rattle.data_counters.proofs.Apart.{IsCounterNumber, number_of-range}
 use Rattle.rule_items.specs.Building.{fixed}
 use Rattle.rule_items.specs.Saying.{counted, with_registers}
+use Rattle.rule_items.proofs.Rules.{chosen}
 use Rattle.rule_items.proofs.Steps.{on, on-next}
 use Rattle.apf_generate.specs.Listing.{raising_items}
 use Rattle.apf_generate.proofs.WordsSeen.{word_seen, store_seen}
@@ -26,10 +27,6 @@ inside_case : (b c : Bool) (a n len k : ℕ) → leb n a ≡ b → leb (a + 4) (
 inside_case true true a n len k s t e low high p = refl
 inside_case true false a n len k s t e low high p = absurd (grind (arith, nat_tests))
 inside_case false c a n len k s t e low high p = absurd (grind (arith, nat_tests))
-
-chosen : (b : Bool) (x y : Meaning) → b ≡ true → cond b x y ≡ x
-chosen true x y e = refl
-chosen false x y e = absurd cc
 
 module _ (n : ℕ) (frame : List ℕ) (m : State) (c : Counter) where
   range : IsCounterNumber (number_of c)

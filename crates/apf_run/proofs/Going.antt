@@ -2,12 +2,12 @@
 use Rattle.std.proofs.Common.{◌≡◌, ◌<◌, ℕ, List, ◌++◌, Option, None, Some, Result, Ok, Err, IfSome, refl, sym, ap, subst, ◌∙◌, inl, inr, append_assoc}
 use Rattle.std.specs.List.{concat}
 use Rattle.std.proofs.lemmas.List.Folds.{concat-append}
-use Rattle.apf_base.specs.Streams.{AppendsFront}
+use Rattle.apf_base.specs.Streams.{AppendsFront, AppendsAll}
 use Rattle.filter_report.proofs.Adding.{all_and_all, all_and_front}
 use Rattle.filter_report.specs.Lines.{BreaksOff}
 use Rattle.filter_report.specs.declared.fault.ReportFault.{ReportFault}
 use Rattle.filter_report.specs.declared.fault.ReportFault.TheVariants as reports
-use Rattle.apf_run.specs.Lines.{AppendsAll, AppendsFirst}
+use Rattle.apf_run.specs.Lines.{AppendsFirst}
 use Rattle.apf_run.specs.Ends.{Meets, GoesOn, ComesFirst, LeavesFront, end_place, place}
 use Rattle.apf_run.specs.FilterEnds.{fault_of}
 use Rattle.apf_run.specs.declared.fault.Fault.{Fault}

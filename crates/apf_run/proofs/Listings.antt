@@ -12,7 +12,7 @@ use Rattle.apf_disasm.proofs.Parts.{written_is}
 use Rattle.apf_run.specs.declared.fault.Fault.{Fault}
 use Rattle.apf_run.specs.declared.fault.Fault.TheVariants.{Usage, BadCapture, BadScript, BadText, Twice, Unknown, Backward, TooLong, CodeTooLong, TooLarge, OutOfMemory, Read, Write, Open}
 use Rattle.apf_run.specs.declared.fault.Input.TheVariants.{Program}
-use Rattle.apf_run.specs.Lines.{AppendsAll}
+use Rattle.apf_base.specs.Streams.{AppendsAll}
 use Rattle.apf_run.specs.Ends.{Meets, LeavesFront, WriteFails}
 use Rattle.apf_run.specs.AsmEnds.{disasm_end, IsDisasm}
 

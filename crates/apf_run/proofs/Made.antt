@@ -4,7 +4,7 @@ use Rattle.std.specs.List.{concat}
 use Rattle.std.specs.Io.KnownBytes.{Keeps}
 use Rattle.std.proofs.lemmas.List.{length-map}
 use Rattle.std.proofs.lemmas.List.FromFn.{length-map-range_with_len}
-use Rattle.apf_base.specs.Streams.{AppendsFront}
+use Rattle.apf_base.specs.Streams.{AppendsFront, AppendsAll}
 use Rattle.pcap_files.specs.Capture.{capture, frame_of}
 use Rattle.pcap_files.specs.declared.kinds.Placed.{Placed}
 use Rattle.policy_state.specs.States.{start}
@@ -20,7 +20,7 @@ use Rattle.script_text.specs.declared.script_error.ScriptKind.{ScriptKind}
 use Rattle.filter_core.specs.Replay.{Course, after_arrival, begun, course, finished, totals}
 use Rattle.filter_report.specs.Along.{Reporting, InCourse}
 use Rattle.filter_report.specs.Arrivals.{arrivals_of}
-use Rattle.filter_report.specs.Lines.{Adds, AppendsAll}
+use Rattle.filter_report.specs.Lines.{Adds}
 use Rattle.filter_report.specs.Text.{entry_lines}
 use Rattle.filter_report.specs.declared.fault.ReportFault.{ReportFault}
 use Rattle.filter_report.specs.declared.fault.ReportFault.TheVariants as reports

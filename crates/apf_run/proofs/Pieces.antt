@@ -2,7 +2,7 @@
 use Rattle.std.proofs.Common.{◌≡◌, ℕ, List, Option, Some, Result, Ok, Err, OnOk, OnErr, refl, sym, subst, arith, inl, inr}
 use Rattle.apf_run.specs.declared.fault.Fault.{Fault}
 use Rattle.apf_run.specs.declared.fault.Fault.TheVariants.{Write}
-use Rattle.apf_run.specs.Lines.{AppendsAll}
+use Rattle.apf_base.specs.Streams.{AppendsAll}
 use Rattle.apf_run.specs.Ends.{Meets, LeavesFront}
 
 -- the lines are those of the defined end: they were written, or a write failed

@@ -1,11 +1,6 @@
 -- Texts that are written a line at a time. A line has its line feed.
 use Rattle.std.specs.Prelude.{◌≡◌, ℕ, List, ◌++◌, Option}
-use Rattle.std.specs.List.{concat}
-use Rattle.std.specs.Io.KnownBytes.{Appends}
-
--- the known bytes grow by all of these lines
-abbrev pub AppendsAll : Option (List ℕ) → Option (List ℕ) → List (List ℕ) → Type 0
-AppendsAll old new lines = Appends old new (concat lines)
+use Rattle.apf_base.specs.Streams.{AppendsAll}
 
 -- the known bytes grow by the first of these lines, each of them whole
 abbrev pub AppendsFirst : Option (List ℕ) → Option (List ℕ) → List (List ℕ) → Type 0

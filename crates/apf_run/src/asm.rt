@@ -7,7 +7,7 @@ ghost use Rattle.apf_asm.specs.Items.{IsItemForm};
 ghost use Rattle.apf_asm.specs.Layout.{layout};
 ghost use Rattle.apf_asm.specs.Refusals.{answer};
 ghost use Rattle.apf_asm.specs.TextReading.{text_answer};
-ghost use Rattle.apf_run.specs.Lines.{AppendsAll};
+ghost use Rattle.apf_base.specs.Streams.{AppendsAll};
 ghost use Rattle.apf_run.specs.Ends.{Meets, Stops, LeavesFront};
 ghost use Rattle.apf_run.specs.AsmEnds.{asm_end, asm_output, text_end, items_end, code_lines};
 

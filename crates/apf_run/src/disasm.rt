@@ -5,7 +5,7 @@ ghost use Rattle.std.specs.Io.KnownBytes.{Keeps, IsAtEnd};
 ghost use Rattle.apf_base.specs.Causes.{Rose};
 ghost use Rattle.apf_disasm.specs.Listing.{Entry, IsListing, entry_of};
 ghost use Rattle.apf_disasm.specs.Printing.{line_text, written};
-ghost use Rattle.apf_run.specs.Lines.{AppendsAll};
+ghost use Rattle.apf_base.specs.Streams.{AppendsAll};
 ghost use Rattle.apf_run.specs.Ends.{Meets, WriteFails, LeavesFront};
 ghost use Rattle.apf_run.specs.AsmEnds.{disasm_end, IsDisasm};
 

@@ -3,9 +3,8 @@
 ghost use Rattle.std.specs.Prelude.{◌≡◌, ◌≤◌, ◌<◌, ◌∷◌, [], length, IfSome, IfOk, IfErr, OnOk, OnErr};
 ghost use Rattle.std.specs.Io.KnownBytes.{Appends, IsAtEnd};
 ghost use Rattle.apf_base.specs.Causes.{Rose};
-ghost use Rattle.apf_base.specs.Streams.{AppendsFront};
+ghost use Rattle.apf_base.specs.Streams.{AppendsFront, AppendsAll};
 ghost use Rattle.apf_run.specs.Ends.{FileFails, LeavesFront};
-ghost use Rattle.apf_run.specs.Lines.{AppendsAll};
 
 use crate::fault::{Fault, Input};
 use apf_base::{List, ReadAllError, Shelf, Sink, Source, read_all, write_all};

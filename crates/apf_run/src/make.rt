@@ -3,7 +3,7 @@
 ghost use Rattle.std.specs.Prelude.{◌≡◌, ◌≢◌, ◌≤◌, ◌<◌, ◌^◌, ◌⊎◌, ◌∷◌, [], ℕ, List as Items, length, IfOk, IfErr, OnOk, OnErr, Ok, Err, Some, None};
 ghost use Rattle.std.specs.Io.KnownBytes.{Keeps};
 ghost use Rattle.apf_base.specs.Causes.{Rose};
-ghost use Rattle.apf_base.specs.Streams.{AppendsFront};
+ghost use Rattle.apf_base.specs.Streams.{AppendsFront, AppendsAll};
 ghost use Rattle.std.specs.List.{concat};
 ghost use Rattle.filter_core.specs.Replay.{course, finished};
 ghost use Rattle.filter_report.specs.Along.{InCourse};
@@ -11,7 +11,6 @@ ghost use Rattle.filter_report.specs.Arrivals.{arrivals_of};
 ghost use Rattle.pcap_files.specs.Capture.{capture as read_capture};
 ghost use Rattle.script_text.specs.ScriptLines.{contents_of};
 ghost use Rattle.apf_run.specs.Ends.{Meets};
-ghost use Rattle.apf_run.specs.Lines.{AppendsAll};
 ghost use Rattle.apf_run.specs.MadeText.{IsMade, HasBegunMade, HasEndedMade};
 ghost use Rattle.made_input.specs.MadeCaptures.{made_capture};
 ghost use Rattle.made_input.specs.MadeScripts.{made_contents};

@@ -1,3 +1,4 @@
 pub mod Adding
 pub mod Apart
+pub mod Listed
 pub mod Words

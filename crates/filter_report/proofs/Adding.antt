@@ -7,10 +7,10 @@ use Rattle.std.proofs.KnownBytes.{Appends-trans, Appends-nil}
 use Rattle.std.proofs.lemmas.Grind.{take_at_read}
 use Rattle.std.proofs.lemmas.List.{take_all}
 use Rattle.std.proofs.lemmas.List.Folds.{concat-append}
-use Rattle.apf_base.specs.Streams.{AppendsFront}
+use Rattle.apf_base.specs.Streams.{AppendsFront, AppendsAll}
 use Rattle.filter_report.specs.declared.fault.ReportFault.{ReportFault}
 use Rattle.filter_report.specs.declared.fault.ReportFault.TheVariants.{TooLarge, OutOfMemory, Write}
-use Rattle.filter_report.specs.Lines.{AppendsAll, Adds, BreaksOff}
+use Rattle.filter_report.specs.Lines.{Adds, BreaksOff}
 
 -- ---- lines behind lines
 

@@ -1,11 +1,10 @@
 -- The last lines are those of the totals.
-use Rattle.std.proofs.Common.{◌≡◌, ℕ, suc, ◌+◌, ◌*◌, ◌^◌, ◌<◌, ◌≤◌, ◌==◌, Bool, true, false, cond, eqb, List, [], ◌∷◌, ◌++◌, length, map, take, get_or, flat_map, Some, refl, sym, ap, subst, ◌∙◌, arith, append_assoc}
+use Rattle.std.proofs.Common.{◌≡◌, ℕ, suc, ◌+◌, ◌*◌, ◌^◌, ◌<◌, ◌≤◌, ◌==◌, Bool, true, false, cond, List, [], ◌∷◌, ◌++◌, length, map, take, flat_map, refl, sym, ap, subst, ◌∙◌, arith, append_assoc}
 use Rattle.std.specs.Option.{option_map_or}
-use Rattle.std.proofs.lemmas.Bool.{agree_below_at, eqb-true}
 use Rattle.std.proofs.lemmas.Grind.{take_at_read, flat_map-append}
 use Rattle.std.proofs.lemmas.List.{append-nil, map-append}
 use Rattle.std.proofs.lemmas.List.Sums.{sum_by-cons}
-use Rattle.data_counters.proofs.Apart.{counter_of-number_of}
+use Rattle.data_counters.proofs.Listed.{at, counter_of-next}
 use Rattle.data_counters.specs.Counters.{number_of, counter_of, all_counters}
 use Rattle.data_counters.specs.Memory.{value_of}
 use Rattle.data_counters.specs.declared.counter.Counter.{Counter}
@@ -25,23 +24,14 @@ use Rattle.filter_report.specs.Along.{Along, Reporting, InCourse}
 use Rattle.filter_report.specs.Report.{AllFit, steps_from, Tells, AllHaveCodes, Leads}
 use Rattle.filter_report.specs.Text.{entry_line, entry_lines, lines_of_counter, last_lines}
 
--- ---- the counters by their numbers are all counters
-
-at : ℕ → Counter
-at k = get_or all_counters k TotalPackets
-
-number_of-at : (k : ℕ) → k < 27 → number_of (at k) ≡ k + 1
-unfolding at
-number_of-at k lt = eqb-true (number_of (at k)) (k + 1) (agree_below_at (λ n. eqb (number_of (get_or all_counters n TotalPackets)) (n + 1)) (λ _. true) 27 k refl lt)
-
--- the lines of the counters up to a number
+-- ---- the lines of the counters up to a number
 pub counted_lines : List ℕ → ℕ → List (List ℕ)
 counted_lines memory k = flat_map (lines_of_counter memory) (take k all_counters)
 
 pub counted_lines-more : (memory : List ℕ) (k : ℕ) → k < 27 → counted_lines memory (k + 1) ≡ counted_lines memory k ++ option_map_or (lines_of_counter memory) (counter_of (k + 1)) []
 unfolding counted_lines at
 counted_lines-more memory k lt =
-    let found : counter_of (k + 1) ≡ Some (at k) = ap counter_of (sym (number_of-at k lt)) ∙ counter_of-number_of (at k) in
+    let found = counter_of-next k lt in
     let more = (take_at_read all_counters k TotalPackets (omega arith)).1 in
     ap (λ (cs : List Counter). flat_map (lines_of_counter memory) cs) more
     ∙ flat_map-append (lines_of_counter memory) (take k all_counters) (at k ∷ [])

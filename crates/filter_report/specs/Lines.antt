@@ -1,14 +1,9 @@
 -- Lines that are written one by one. A line has its line feed.
 use Rattle.std.specs.Prelude.{ℕ, ⊤, List, ◌++◌, Option}
 use Rattle.std.specs.List.{concat}
-use Rattle.std.specs.Io.KnownBytes.{Appends}
-use Rattle.apf_base.specs.Streams.{AppendsFront}
+use Rattle.apf_base.specs.Streams.{AppendsAll, AppendsFront}
 use Rattle.filter_report.specs.declared.fault.ReportFault.{ReportFault}
 use Rattle.filter_report.specs.declared.fault.ReportFault.TheVariants.{TooLarge, OutOfMemory, Write}
-
--- the known bytes grow by all of these lines
-abbrev pub AppendsAll : Option (List ℕ) → Option (List ℕ) → List (List ℕ) → Type 0
-AppendsAll old new lines = Appends old new (concat lines)
 
 -- Where these held of the lines so far, lines were added, and those hold of all lines.
 abbrev pub Adds : (List (List ℕ) → Type 0) → (List (List ℕ) → Type 0) → Option (List ℕ) → Option (List ℕ) → Type 0

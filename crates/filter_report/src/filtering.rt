@@ -4,14 +4,14 @@ ghost use Rattle.std.specs.Prelude.{◌≡◌, ◌≢◌, ◌≤◌, ◌<◌, �
 ghost use Rattle.std.specs.Io.KnownBytes.{Keeps};
 ghost use Rattle.std.specs.List.{concat};
 ghost use Rattle.apf_base.specs.Causes.{Rose};
-ghost use Rattle.apf_base.specs.Streams.{AppendsFront};
+ghost use Rattle.apf_base.specs.Streams.{AppendsFront, AppendsAll};
 ghost use Rattle.filter_core.specs.Replay.{Course, after_arrival, after_due, after_frame, begun, finished, totals};
 ghost use Rattle.pcap_files.specs.Capture.{frame_of, IsWithin};
 ghost use Rattle.policy_state.specs.States.{start};
 ghost use Rattle.size_fit.specs.Sizes.{base, limit_of};
 ghost use Rattle.filter_report.specs.Along.{InCourse, IsFirst};
 ghost use Rattle.filter_report.specs.Arrivals.{arrivals_of};
-ghost use Rattle.filter_report.specs.Lines.{Adds, AppendsAll, BreaksOff};
+ghost use Rattle.filter_report.specs.Lines.{Adds, BreaksOff};
 ghost use Rattle.filter_report.specs.Text.{with_one, entry_lines};
 ghost use Rattle.filter_report.specs.Report.{Leads, Tells, ended};
 

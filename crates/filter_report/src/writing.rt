@@ -3,8 +3,7 @@
 ghost use Rattle.std.specs.Prelude.{◌≡◌, ◌≢◌, ◌≤◌, ◌∷◌, ℕ, OnOk, OnErr, Err};
 ghost use Rattle.std.specs.List.{concat};
 ghost use Rattle.apf_base.specs.Causes.{Rose};
-ghost use Rattle.apf_base.specs.Streams.{AppendsFront};
-ghost use Rattle.filter_report.specs.Lines.{AppendsAll};
+ghost use Rattle.apf_base.specs.Streams.{AppendsFront, AppendsAll};
 
 use crate::fault::ReportFault;
 use apf_base::{List, Sink, write_all};

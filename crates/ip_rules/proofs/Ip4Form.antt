@@ -12,13 +12,14 @@ use Rattle.policy_state.specs.declared.state.Address.{Address}
 use Rattle.policy_state.specs.Ethernet.{broadcast}
 use Rattle.policy_state.specs.Ip4.{net_broadcast_of}
 use Rattle.rule_items.specs.Building.{fixed, counting, jump, jump_if, jump_unless, load, to_end}
-use Rattle.rule_items.specs.Fragment.{AreFresh, IsFragment, labels}
+use Rattle.rule_items.specs.Fragment.{IsFragment, labels}
 use Rattle.rule_items.proofs.Forms.{IsSound, stands-here, bytes_fit, sound-nil, sound-byte, sound-if_end, sound-if_label, sound-jump_end, sound-unless_end, sound-unless_label, sound-label}
 use Rattle.rule_items.proofs.Parts.{fragment-of, fragment-then, fragment-turned}
 use Rattle.rule_items.proofs.Rulings.{sound-counting}
 use Rattle.ip_rules.specs.Ip4Listing.{header_into, dhcp_items, net_items, destination_items, filtered_items, last_items, ip4_items, IsMac, IsInRange}
 use Rattle.ip_rules.proofs.Ip4Ruling.{packet_items}
 use Rattle.ip_rules.proofs.Over.{over_fragment}
+use Rattle.ip_rules.proofs.KeepaliveForm.{fresh-one}
 
 -- ---- DHCP
 
@@ -41,9 +42,6 @@ wide-dhcp away mac six = omega (arith, six)
 labels-dhcp : (away : ℕ) (mac : List ℕ) → labels (dhcp_items away mac) ≡ away ∷ []
 unfolding labels
 labels-dhcp away mac = refl
-
-fresh-one : (away : ℕ) (ls : List ℕ) → ls ≡ away ∷ [] → AreFresh away (away + 1) ls
-fresh-one away ls e = rw e (omega arith, omega arith, tt, tt)
 
 dhcp_fragment : (away : ℕ) (mac : List ℕ) → IsMac mac → IsFragment away (away + 1) 61 (dhcp_items away mac)
 dhcp_fragment away mac is_mac =

@@ -86,7 +86,7 @@ net_same (Some address) frame = net_cases (destination_address frame) (ltb addre
 abbrev host_ruling : Option (List ℕ) → Ruling
 host_ruling mac = reading mac (λ m. cond (bytes_eq m broadcast) (Says Drop DroppedIpv4L2Broadcast) (Says Pass PassedIpv4Unicast))
 
-cond-not : (b : Bool) (x y : Ruling) → cond (not b) x y ≡ cond b y x
+pub cond-not : (b : Bool) (x y : Ruling) → cond (not b) x y ≡ cond b y x
 cond-not true x y = refl
 cond-not false x y = refl
 

@@ -55,7 +55,7 @@ labels-answer : (away : ℕ) (sent : Keepalive) → labels (answer_items away se
 unfolding labels
 labels-answer away sent = refl
 
-fresh-one : (away : ℕ) (ls : List ℕ) → ls ≡ away ∷ [] → AreFresh away (away + 1) ls
+pub fresh-one : (away : ℕ) (ls : List ℕ) → ls ≡ away ∷ [] → AreFresh away (away + 1) ls
 fresh-one away ls e = rw e (omega arith, omega arith, tt, tt)
 
 pub answer_fragment : (away : ℕ) (sent : Keepalive) → IsFragment away (away + 1) 65 (answer_items away sent)

@@ -70,20 +70,6 @@ fn add_answers(
     Ok(())
 }
 
-/// How many slots hold a keepalive.
-fn count_keepalives(slots: &[Option<Keepalive>; 8]) -> u32
-    ensures value { result ≡ count_by is_some slots.now }
-    ensures most { result ≤ 8 }
-{
-    let mut count = 0;
-    for slot in slots {
-        if slot.is_some() {
-            count += 1;
-        }
-    }
-    count
-}
-
 /// The label behind those of all keepalives, each of which has one, and one is behind them all.
 pub(crate) fn label_behind(next: u32, state: &FilterState) -> u32
     requires { next ≤ 1000000 }
@@ -93,7 +79,7 @@ pub(crate) fn label_behind(next: u32, state: &FilterState) -> u32
     if !state.holds_keepalive() {
         return next;
     }
-    next + count_keepalives(&state.keepalives) + 1
+    next + state.count_keepalives() + 1
 }
 
 /// Answers to all keepalives. Other packets than TCP go over them. An `Err` leaves a part of the items.
@@ -101,14 +87,14 @@ pub(crate) fn label_behind(next: u32, state: &FilterState) -> u32
 fn add_segment(
     alloc: Global,
     next: u32,
-    slots: &[Option<Keepalive>; 8],
+    state: &FilterState,
     out: &mut List<Item>,
 ) -> Result<(), OutOfMemory>
     requires { next ≤ 1000000 }
-    ensures ok { OnOk result (out.new ≡ out.old ++ segment_items (next + count_by is_some slots.now) (slots_items next slots.now)) }
+    ensures ok { OnOk result (out.new ≡ out.old ++ segment_items (next + count_by is_some state.now.keepalives) (slots_items next state.now.keepalives)) }
     ensures err { OnErr result (Extends out.old out.new) }
 {
-    let over = next + count_keepalives(slots);
+    let over = next + state.count_keepalives();
     out.append(List::of(
         alloc,
         [
@@ -116,7 +102,7 @@ fn add_segment(
             jump_if(alloc, Op::Jne, 6, Target::Label(over)),
         ],
     )?)?;
-    add_answers(alloc, next, slots, out)?;
+    add_answers(alloc, next, &state.keepalives, out)?;
     out.push(Item::Label(over))
 }
 
@@ -134,7 +120,7 @@ pub(crate) fn add_keepalives(
     if !basis.state.holds_keepalive() {
         return Ok(());
     }
-    add_segment(alloc, next, &basis.state.keepalives, out)
+    add_segment(alloc, next, &basis.state, out)
 }
 
 /// Appends the question on answers to keepalives (RFC 9293, section 3.8.4), for every frame whose ethertype is that of IPv4.

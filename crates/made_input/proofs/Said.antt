@@ -1,19 +1,19 @@
 -- A made script is a script.
-use Rattle.std.proofs.Common.{◌≡◌, ℕ, zero, suc, ◌+◌, ◌/◌, ◌^◌, ◌<◌, ◌≤◌, Bool, true, false, ◌&&◌, not, cond, eqb, List, [], ◌∷◌, ◌++◌, length, refl, sym, ap, ◌∙◌, arith, rules, append_assoc, lit≤, lit<}
+use Rattle.std.proofs.Common.{◌≡◌, ℕ, zero, suc, ◌+◌, ◌/◌, ◌^◌, ◌<◌, ◌≤◌, Bool, true, false, ◌&&◌, not, cond, eqb, List, [], ◌∷◌, ◌++◌, length, refl, sym, ap, ◌∙◌, arith, append_assoc, lit≤, lit<}
 use Rattle.std.specs.Prelude.{map, codes}
 use Rattle.std.specs.Char.{is_ascii_digit}
 use Rattle.std.specs.Fmt.{decimal, digits}
 use Rattle.std.specs.List.{AllByRecursion, list_all, flat_map, range_with_len, onto_first}
-use Rattle.std.specs.Str.Parse.{digits_value}
 use Rattle.std.proofs.lemmas.Bool.{and_parts, and_from, ne_eqb}
 use Rattle.std.proofs.lemmas.Bool.Decides.{nat_tests}
 use Rattle.std.proofs.lemmas.Fmt.{digits_decimal, length-decimal-le}
 use Rattle.std.proofs.lemmas.List.{length-append}
 use Rattle.std.proofs.lemmas.List.Elements.{All-from_recursion}
 use Rattle.std.proofs.lemmas.List.Folds.{list_all-append}
-use Rattle.std.proofs.lemmas.Str.Parse.{IsNumeralModel, numerals_by_value}
 use Rattle.hex.specs.Hex.{encode_with, IsBytes}
-use Rattle.script_text.specs.ScriptLines.{lines_of, is_skipped, numbered, event_line, switch_word, lines_saying, IsEvent}
+use Rattle.plain_text.proofs.Numerals.{own}
+use Rattle.plain_text.specs.Lines.{lines_of}
+use Rattle.script_text.specs.ScriptLines.{is_skipped, numbered, event_line, switch_word, lines_saying, IsEvent}
 use Rattle.script_text.specs.Scripts.{IsSound, Says}
 use Rattle.script_text.proofs.AddressWords.{lacks, digits_lack}
 use Rattle.script_text.proofs.DigitWords.{bytes-cons}
@@ -57,9 +57,6 @@ kept-all number [] a = refl
 kept-all number (l ∷ ls) a = kept_step number l (numbered (number + 1) ls) ls (is_skipped l) a.0.kept (kept-all (number + 1) ls a.1)
 
 -- ---- the made lines
-
-own : IsNumeralModel (λ ds. list_all is_ascii_digit ds ≡ true) (digits_value 10)
-own = numerals_by_value _ (search rules)
 
 digit_plain : (b : ℕ) → is_ascii_digit b ≡ true → lacks 10 b ≡ true
 digit_plain b e = grind (arith, nat_tests)

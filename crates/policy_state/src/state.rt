@@ -74,8 +74,8 @@ pub struct FilterState {
 }
 
 impl FilterState {
-    ghost use Rattle.std.specs.Prelude.{is_some};
-    ghost use Rattle.std.specs.List.{list_any};
+    ghost use Rattle.std.specs.Prelude.{◌≤◌, is_some};
+    ghost use Rattle.std.specs.List.{list_any, count_by};
     ghost use Rattle.policy_state.specs.States.{start};
 
     /// The state at the start: all off and empty.
@@ -95,5 +95,19 @@ impl FilterState {
         ensures { result ≡ list_any is_some self.now.keepalives }
     {
         self.keepalives.iter().any(|slot| slot.is_some())
+    }
+
+    /// How many slots hold a keepalive, at most 8.
+    pub fn count_keepalives(&self) -> u32
+        ensures value { result ≡ count_by is_some self.now.keepalives }
+        ensures most { result ≤ 8 }
+    {
+        let mut count = 0;
+        for slot in &self.keepalives {
+            if slot.is_some() {
+                count += 1;
+            }
+        }
+        count
     }
 }

@@ -3,6 +3,7 @@ use Rattle.std.proofs.Common.{◌≡◌, ℕ, zero, suc, ◌+◌, ◌-◌, ◌*�
 use Rattle.std.specs.Prelude.{◌&&◌, ◌||◌, ◌==◌, nat_lt, slice_index, slice_range, bytes_eq}
 use Rattle.std.specs.List.{list_all}
 use Rattle.std.proofs.lemmas.Slice.Eq.{bytes_eq-Decides}
+use Rattle.std.proofs.lemmas.Bool.{and_parts}
 use Rattle.frame_views.specs.Fields.{value_of, field}
 use Rattle.ra_records.specs.declared.span.Span.{Span}
 use Rattle.ra_records.specs.declared.span.RaError.{RaError}
@@ -13,10 +14,6 @@ use Rattle.ra_records.specs.Advert.{router, holds, candidate, lifetimes_in, mask
 use Rattle.ra_records.proofs.Sections.{covers, before, above, same-sections}
 use Rattle.ra_records.proofs.Rising.{masks_rise}
 use Rattle.ra_records.proofs.Walk.{whole, rise_more, good, sound}
-
-and_true : (a b : Bool) → (a && b) ≡ true → (a ≡ true) × (b ≡ true)
-and_true true b h = (refl, h)
-and_true false b h = absurd cc
 
 or_right : (a b : Bool) → a ≡ false → (a || b) ≡ true → b ≡ true
 or_right true b e h = absurd cc
@@ -29,11 +26,11 @@ same_at all k at [] (y ∷ ys) l e h = absurd (omega arith)
 same_at all k at (x ∷ xs) [] l e h = absurd (omega arith)
 same_at all zero at (x ∷ xs) (y ∷ ys) l e h =
     let here : at + 0 ≡ at = omega arith in
-    let parts = and_true (is_masked at all || (x == y)) (same_outside all (at + 1) xs ys) e in
+    let parts = and_parts (is_masked at all || (x == y)) (same_outside all (at + 1) xs ys) e in
     eqb-true x y (or_right (is_masked at all) (x == y) (subst (λ (i : ℕ). is_masked i all ≡ false) here h) parts.0)
 same_at all (suc k) at (x ∷ xs) (y ∷ ys) l e h =
     let there : at + suc k ≡ at + 1 + k = omega arith in
-    let parts = and_true (is_masked at all || (x == y)) (same_outside all (at + 1) xs ys) e in
+    let parts = and_parts (is_masked at all || (x == y)) (same_outside all (at + 1) xs ys) e in
     same_at all k (at + 1) xs ys (omega arith) parts.1 (subst (λ (i : ℕ). is_masked i all ≡ false) there h)
 
 -- a refusal rests on the length and on two bytes
@@ -79,10 +76,10 @@ options_kept all skip at [] [] found l e h le r = r
 options_kept all skip at [] (y ∷ ys) found l e h le r = absurd (omega arith)
 options_kept all skip at (x ∷ xs) [] found l e h le r = absurd (omega arith)
 options_kept all (suc skip) at (x ∷ xs) (y ∷ ys) found l e h le r =
-    let parts = and_true (is_masked at all || (x == y)) (same_outside all (at + 1) xs ys) e in
+    let parts = and_parts (is_masked at all || (x == y)) (same_outside all (at + 1) xs ys) e in
     options_kept all skip (at + 1) xs ys found (omega arith) parts.1 (λ i low. h i (omega arith)) (omega arith) r
 options_kept all zero at (x ∷ xs) (y ∷ ys) found l e h le r =
-    let parts = and_true (is_masked at all || (x == y)) (same_outside all (at + 1) xs ys) e in
+    let parts = and_parts (is_masked at all || (x == y)) (same_outside all (at + 1) xs ys) e in
     let units : ℕ = slice_index ys 0 in
     let split = parts_of (option_refusal at (y ∷ ys)) (lifetimes_of y at) found (options_from (8 * slice_index ys 0 - 1) (at + 1) ys) r in
     let more = split.1.0 in
@@ -115,7 +112,7 @@ same_drop all (suc k) at [] ys e l = refl
 same_drop all (suc k) at (x ∷ xs) [] e l = absurd (omega arith)
 same_drop all (suc k) at (x ∷ xs) (y ∷ ys) e l =
     let n : at + 1 + k ≡ at + suc k = omega arith in
-    let parts = and_true (is_masked at all || (x == y)) (same_outside all (at + 1) xs ys) e in
+    let parts = and_parts (is_masked at all || (x == y)) (same_outside all (at + 1) xs ys) e in
     subst (λ (i : ℕ). same_outside all i (drop k xs) (drop k ys) ≡ true) n (same_drop all k (at + 1) xs ys parts.1 (omega arith))
 
 part_of : (n i k : ℕ) (xs : List ℕ) → i + k ≤ n → take k (drop i (take n xs)) ≡ take k (drop i xs)
@@ -148,8 +145,8 @@ equal_bytes xs ys e = (bytes_eq-Decides xs ys).0 e
 candidate_kept : (bytes frame : List ℕ) (lifetimes : List Span) → IsSound bytes lifetimes → length frame ≡ length bytes → same_outside (masks lifetimes) 0 frame bytes ≡ true → candidate frame ≡ candidate bytes
 candidate_kept bytes frame lifetimes h l e =
     let all = sym (same-sections (masks lifetimes) frame bytes l (masks_rise bytes lifetimes h)) ∙ e in
-    let one = and_true (is_equal frame bytes (span 0 15)) (list_all (is_equal frame bytes) (span 18 38 ∷ between 58 lifetimes (length bytes))) all in
-    let two = and_true (is_equal frame bytes (span 18 38)) (list_all (is_equal frame bytes) (between 58 lifetimes (length bytes))) one.1 in
+    let one = and_parts (is_equal frame bytes (span 0 15)) (list_all (is_equal frame bytes) (span 18 38 ∷ between 58 lifetimes (length bytes))) all in
+    let two = and_parts (is_equal frame bytes (span 18 38)) (list_all (is_equal frame bytes) (between 58 lifetimes (length bytes))) one.1 in
     let front = equal_bytes (slice_range frame 0 15) (slice_range bytes 0 15) one.0 in
     let back = equal_bytes (slice_range frame 18 56) (slice_range bytes 18 56) two.0 in
     let type_of = fields_kept frame bytes 12 2 l (cut frame bytes 0 15 12 2 front (lit≤ tt)) in
@@ -182,7 +179,7 @@ behind_masks i more le =
 pub lifetimes_kept : (bytes frame : List ℕ) (lifetimes : List Span) → lifetimes_in bytes ≡ Ok lifetimes → is_same bytes lifetimes frame ≡ true → lifetimes_in frame ≡ Ok lifetimes
 lifetimes_kept bytes frame lifetimes r e =
     let h = sound bytes lifetimes r in
-    let parts = and_true (length frame == length bytes) (same_outside (masks lifetimes) 0 frame bytes) e in
+    let parts = and_parts (length frame == length bytes) (same_outside (masks lifetimes) 0 frame bytes) e in
     let l : length frame ≡ length bytes = eqb-true (length frame) (length bytes) parts.0 in
     let sizes : length (drop 70 frame) ≡ length (drop 70 bytes) = omega (arith, length-drop 70 frame, length-drop 70 bytes) in
     ap (λ (a : Bool). cond a (cond (nat_lt (length frame) 70) (Err Short) (cond (nat_lt 1514 (length frame)) (Err TooLong) (with_front (router ∷ []) (options_from 0 70 (drop 70 frame))))) (Err NotRa))

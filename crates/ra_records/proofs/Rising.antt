@@ -1,8 +1,9 @@
 -- Ranges that stand one behind the other.
 use Rattle.std.proofs.Common.{◌≡◌, ℕ, zero, suc, ◌+◌, ◌-◌, ◌<◌, ◌≤◌, Bool, true, false, cond, List, [], ◌∷◌, ◌++◌, length, drop, get_or, refl, arith, All, eqb, eqb-true, ltb-true, ◌⊎◌, inl, inr}
-use Rattle.std.specs.Prelude.{◌&&◌, ◌||◌, nat_lt}
+use Rattle.std.specs.Prelude.{◌||◌, nat_lt}
 use Rattle.std.specs.List.{list_all, AllByRecursion}
 use Rattle.std.proofs.lemmas.List.Elements.{All-from_recursion}
+use Rattle.std.proofs.lemmas.Bool.{and_parts}
 use Rattle.ra_records.specs.declared.span.Span.{Span}
 use Rattle.ra_records.specs.Masks.{span, stretch, between, IsRising, IsWithin, IsNumber}
 use Rattle.ra_records.specs.Advert.{masks, sections_of, is_number, IsSound}
@@ -51,14 +52,10 @@ two_or_four true b n e f h = inl (eqb-true n 2 e)
 two_or_four false true n e f h = inr (eqb-true n 4 f)
 two_or_four false false n e f h = absurd cc
 
-and_true : (a b : Bool) → (a && b) ≡ true → (a ≡ true) × (b ≡ true)
-and_true true b h = (refl, h)
-and_true false b h = absurd cc
-
 pub numbers : (ms : List Span) (from end : ℕ) → IsRising from ms end → list_all is_number ms ≡ true → AllByRecursion (IsNumber end) ms
 numbers [] from end h k = tt
 numbers (m ∷ ms) from end h k =
-    let parts = and_true (is_number m) (list_all is_number ms) k in (
+    let parts = and_parts (is_number m) (list_all is_number ms) k in (
       record { within = rising_end (m.at + m.len) ms end h.1; width = two_or_four (eqb m.len 2) (eqb m.len 4) m.len refl refl parts.0 },
       numbers ms (m.at + m.len) end h.1 parts.1,
     )

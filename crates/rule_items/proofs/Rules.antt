@@ -102,7 +102,7 @@ unless_means n frame bytes to m some =
     not_empty (length bytes) (eqb (length bytes) 0) _ _ refl some
     ∙ unless_cases (ltb (length frame) (m.r0 + length bytes)) frame bytes m.r0 m
 
-chosen : (b : Bool) (x y : Meaning) → b ≡ true → cond b x y ≡ x
+pub chosen : (b : Bool) (x y : Meaning) → b ≡ true → cond b x y ≡ x
 chosen true x y e = refl
 chosen false x y e = absurd cc
 

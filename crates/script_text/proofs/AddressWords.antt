@@ -1,11 +1,10 @@
 -- Words of addresses are their texts.
-use Rattle.std.proofs.Common.{◌≡◌, ℕ, suc, ◌+◌, ◌-◌, ◌^◌, ◌<◌, ◌≤◌, Bool, true, false, cond, not, eqb, ltb, List, [], ◌∷◌, ◌++◌, length, get_or, take, drop, Option, Some, None, refl, sym, ap, subst, ◌∙◌, arith, lit≤, rules}
+use Rattle.std.proofs.Common.{◌≡◌, ℕ, suc, ◌+◌, ◌-◌, ◌^◌, ◌<◌, ◌≤◌, Bool, true, false, cond, not, eqb, ltb, List, [], ◌∷◌, ◌++◌, length, get_or, take, drop, Option, Some, None, refl, sym, ap, subst, ◌∙◌, arith, lit≤}
 use Rattle.std.specs.Int.{w32, to_be_bytes, from_be_bytes}
 use Rattle.std.specs.Char.{is_ascii_digit}
 use Rattle.std.specs.Fmt.{decimal}
 use Rattle.std.specs.List.{list_all, position_or_len, before_first, after_first}
 use Rattle.std.specs.Option.{option_map}
-use Rattle.std.specs.Str.Parse.{digits_value}
 use Rattle.std.specs.Net.Text.{ipv4_text}
 use Rattle.std.specs.Net.Grammar.{IsDotted, IsIpv4Text}
 use Rattle.std.specs.Net.Addr.{ipv4_bits}
@@ -15,15 +14,16 @@ use Rattle.std.proofs.NetLemmas.Ipv4.{read_ipv4_sound, read_ipv4_complete}
 use Rattle.std.proofs.lemmas.Bool.{and_parts, and_from, eqb-true, eq-eqb, ltb-true, lt-ltb, ne_eqb}
 use Rattle.std.proofs.lemmas.Bool.Decides.{nat_tests}
 use Rattle.std.proofs.lemmas.Fmt.{digits_decimal}
-use Rattle.std.proofs.lemmas.Str.Parse.{IsNumeralModel, numerals_by_value}
 use Rattle.std.proofs.lemmas.List.{take_at, append-nil, append_assoc, length-append, length-drop, take_all}
 use Rattle.std.proofs.lemmas.List.Sums.{split_at_first, passes_at_first}
 use Rattle.std.proofs.lemmas.List.Folds.{list_all-append}
 use Rattle.std.proofs.lemmas.Nat.{be_bytes_4, from_be_bytes-to_be_bytes_4}
 use Rattle.policy_state.specs.declared.state.Address.{Address}
+use Rattle.plain_text.proofs.Numerals.{own}
 use Rattle.script_text.specs.declared.words.Endpoint.{Endpoint}
 use Rattle.script_text.specs.Words.{ip_word, address_word, endpoint_word, SpellsIp, SpellsAddress, SpellsEndpoint}
-use Rattle.script_text.specs.WordReading.{number_of, cut_of, ip_of, address_of, endpoint_of}
+use Rattle.plain_text.specs.Numbers.{number_of}
+use Rattle.script_text.specs.WordReading.{cut_of, ip_of, address_of, endpoint_of}
 use Rattle.script_text.proofs.Exactness.{Exact, bind_some, if_some, some_inj}
 use Rattle.script_text.proofs.NumberWords.{number_exact}
 use Rattle.script_text.proofs.DigitWords.{bytes-cons}
@@ -119,9 +119,6 @@ ip_exact word = record {
 }
 
 -- ---- an address with what stands behind it
-
-own : IsNumeralModel (λ ds. list_all is_ascii_digit ds ≡ true) (digits_value 10)
-own = numerals_by_value _ (search rules)
 
 pub digits_lack : (byte : ℕ) (ds : List ℕ) → ((b : ℕ) → is_ascii_digit b ≡ true → lacks byte b ≡ true) → list_all is_ascii_digit ds ≡ true → list_all (lacks byte) ds ≡ true
 digits_lack byte [] one e = refl

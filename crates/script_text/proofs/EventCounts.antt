@@ -1,25 +1,15 @@
 -- Each event has a line, and each line a byte.
-use Rattle.std.proofs.Common.{◌≡◌, ◌≤◌, ◌+◌, ℕ, suc, Bool, true, false, not, List, [], ◌∷◌, ◌++◌, length, map, refl, sym, ap, ◌∙◌, arith}
-use Rattle.std.specs.Prelude.{◌==◌, if◌then◌else◌, filter, Result, Ok, Err, IfOk}
-use Rattle.std.specs.List.{onto_first, enumerate_from}
+use Rattle.std.proofs.Common.{◌≤◌, ℕ, not, List, length, map, refl, ap, arith}
+use Rattle.std.specs.Prelude.{Result, Ok, Err, IfOk}
+use Rattle.std.specs.List.{enumerate_from}
 use Rattle.std.proofs.lemmas.List.{length-map, length-append}
 use Rattle.std.proofs.lemmas.List.Filters.{length-filter_both}
 use Rattle.std.proofs.lemmas.List.FromFn.{length-enumerate_from}
 use Rattle.policy_state.specs.declared.basis.Script.{Script}
-use Rattle.script_text.specs.ScriptLines.{Contents, contents_of, event_line, first_lines, lines_of, kept_lines, is_skipped}
+use Rattle.plain_text.specs.Lines.{lines_of}
+use Rattle.script_text.specs.ScriptLines.{contents_of, event_line, first_lines, kept_lines, is_skipped}
+use Rattle.plain_text.proofs.LineCounts.{lines_few}
 use Rattle.script_text.specs.Scripts.{IsScriptText}
-
-onto_few : (b : ℕ) (lines : List (List ℕ)) → length (onto_first b lines) ≤ suc (length lines)
-onto_few b [] = omega arith
-onto_few b (line ∷ lines) = omega arith
-
-feed_few : (feed : Bool) (b : ℕ) (lines : List (List ℕ)) → length (if feed then [] ∷ lines else onto_first b lines) ≤ suc (length lines)
-feed_few true b lines = omega arith
-feed_few false b lines = onto_few b lines
-
-lines_few : (text : List ℕ) → length (lines_of text) ≤ length text
-lines_few [] = omega arith
-lines_few (b ∷ rest) = omega (arith, lines_few rest, feed_few (b == 10) b (lines_of rest))
 
 kept_few : (text : List ℕ) → length (kept_lines text) ≤ length text
 kept_few text =

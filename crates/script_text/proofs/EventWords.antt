@@ -1,15 +1,13 @@
 -- Events are the texts of what they say.
-use Rattle.std.proofs.Common.{◌≡◌, ℕ, ◌^◌, ◌<◌, ◌≤◌, Bool, true, false, cond, eqb, List, [], ◌∷◌, ◌++◌, Option, Some, None, refl, sym, ap, subst, ◌∙◌, append_assoc, arith, rules, inl, inr}
+use Rattle.std.proofs.Common.{◌≡◌, ℕ, ◌^◌, ◌<◌, ◌≤◌, Bool, true, false, cond, eqb, List, [], ◌∷◌, ◌++◌, Option, Some, None, refl, sym, ap, subst, ◌∙◌, append_assoc, arith, inl, inr}
 use Rattle.std.specs.Prelude.{codes, ◌⊎◌}
 use Rattle.std.specs.Str.{bytes_eq}
 use Rattle.std.specs.Char.{is_ascii_digit}
 use Rattle.std.specs.Fmt.{decimal}
 use Rattle.std.specs.List.{join_with_byte, list_all}
-use Rattle.std.specs.Str.Parse.{digits_value}
 use Rattle.std.proofs.lemmas.Bool.{and_from}
 use Rattle.std.proofs.lemmas.Bool.Decides.{nat_tests}
 use Rattle.std.proofs.lemmas.Fmt.{digits_decimal}
-use Rattle.std.proofs.lemmas.Str.Parse.{IsNumeralModel, numerals_by_value}
 use Rattle.std.proofs.lemmas.List.Folds.{list_all-append}
 use Rattle.apf_coding.specs.Reading.{◌>>=◌}
 use Rattle.policy_state.specs.declared.state.Address.{Address}
@@ -17,19 +15,18 @@ use Rattle.policy_state.specs.declared.state.Keepalive.{Keepalive}
 use Rattle.policy_state.specs.declared.update.Update.{Update}
 use Rattle.policy_state.specs.declared.update.Update.TheVariants as updates
 use Rattle.policy_state.specs.declared.basis.Timed.{Timed}
+use Rattle.plain_text.proofs.Numerals.{own}
 use Rattle.script_text.specs.declared.words.Endpoint.{Endpoint}
 use Rattle.script_text.specs.Words.{ip_word, address_word, endpoint_word}
-use Rattle.script_text.specs.WordReading.{number_of, cut_of, address_of, endpoint_of}
+use Rattle.plain_text.specs.Numbers.{number_of}
+use Rattle.script_text.specs.WordReading.{cut_of, address_of, endpoint_of}
 use Rattle.script_text.specs.ScriptLines.{switch_word, keepalive_words, update_text, event_line, local_end, remote_end, IsWord, IsKeepalive, IsUpdate, IsEvent}
 use Rattle.script_text.specs.ScriptReading.{behind, switch_of, added_read, address_read, tried, update_of, event_of}
 use Rattle.script_text.proofs.Exactness.{Exact, bind_some, some_inj}
 use Rattle.script_text.proofs.AddressWords.{lacks, digits_lack, ip_word_passes, cut_found, cut_of-parts, address_exact, endpoint_exact}
-use Rattle.script_text.proofs.LineWords.{is_text, text_is_other, behind_found, behind-front, word_exact, switch_exact}
+use Rattle.script_text.proofs.LineWords.{is_text, text_is_other, behind_found, behind-front, word_exact, switch_exact, switch_of-word}
 
 -- ---- words without blanks
-
-own : IsNumeralModel (λ ds. list_all is_ascii_digit ds ≡ true) (digits_value 10)
-own = numerals_by_value _ (search rules)
 
 digit_no_blank : (b : ℕ) → is_ascii_digit b ≡ true → lacks 32 b ≡ true
 digit_no_blank b e = grind (arith, nat_tests)
@@ -197,9 +194,6 @@ address_none : address_read (codes "none") ≡ Some (updates.Address None)
 unfolding address_read
 address_none = refl
 
-switch_read : (on : Bool) → switch_of (switch_word on) ≡ Some on
-switch_read on = (switch_exact (switch_word on)).only on refl
-
 -- a text that begins otherwise
 no_multicast : (b : ℕ) (rest : List ℕ) → eqb b 109 ≡ false → behind (codes "multicast ") (b ∷ rest) ≡ None
 unfolding behind
@@ -219,8 +213,8 @@ no_add rest = refl
 
 update_again : (u : Update) → IsUpdate u → update_of (update_text u) ≡ Some u
 unfolding update_of
-update_again (updates.Multicast on) s = rw (behind-front (codes "multicast ") (switch_word on), switch_read on) refl
-update_again (updates.Doze on) s = rw (no_multicast 100 _ refl, behind-front (codes "doze ") (switch_word on), switch_read on) refl
+update_again (updates.Multicast on) s = rw (behind-front (codes "multicast ") (switch_word on), switch_of-word on) refl
+update_again (updates.Doze on) s = rw (no_multicast 100 _ refl, behind-front (codes "doze ") (switch_word on), switch_of-word on) refl
 update_again (updates.Address None) s = rw (no_multicast 97 _ refl, no_doze 97 _ refl, behind-front (codes "address ") (codes "none")) (address_none)
 update_again (updates.Address (Some a)) s = rw (no_multicast 97 _ refl, no_doze 97 _ refl, behind-front (codes "address ") (address_word a)) (address_again a s.0 s.1)
 update_again (updates.KeepaliveAdd slot sent) s = rw (no_multicast 107 _ refl, no_doze 107 _ refl, no_address 107 _ refl, behind-front (codes "keepalive add ") (join_with_byte 32 (keepalive_words slot sent))) (added_again slot sent s.0 s.1)

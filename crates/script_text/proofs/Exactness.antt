@@ -1,7 +1,8 @@
 -- A function that computes finds the value that is spelled, and each value that is spelled is found.
-use Rattle.std.proofs.Common.{◌≡◌, Bool, true, false, cond, Option, Some, None, refl, sym, ◌∙◌}
+use Rattle.std.proofs.Common.{◌≡◌, Option, Some, None, refl, sym, ◌∙◌}
 use Rattle.std.specs.Prelude.{IfSome, IsNone, ◌↔◌}
 use Rattle.apf_coding.specs.Reading.{◌>>=◌}
+pub use Rattle.plain_text.proofs.Numerals.{if_some}
 
 pub record Exact {A : Type 0} (read : Option A) (Spells : A → Type 0) : Type 0 where
   pub found : (value : A) → read ≡ Some value → Spells value
@@ -26,10 +27,6 @@ exact-one Spells read e x y p q = let first = e.only x p in let second = e.only 
 pub bind_some : {A B : Type 0} (o : Option A) (f : A → Option B) (y : B) → (o >>= f) ≡ Some y → (x : A) × (o ≡ Some x) × (f x ≡ Some y)
 bind_some (Some x) f y e = (x, refl, e)
 bind_some None f y e = absurd cc
-
-pub if_some : {A : Type 0} (b : Bool) (x : Option A) (y : A) → cond b x None ≡ Some y → (b ≡ true) × (x ≡ Some y)
-if_some true x y e = (refl, e)
-if_some false x y e = absurd cc
 
 pub some_inj : {A : Type 0} (x y : A) → Some x ≡ Some y → x ≡ y
 some_inj x y e = cc

@@ -12,7 +12,8 @@ use Rattle.script_text.specs.declared.script_error.ScriptError.{ScriptError}
 use Rattle.script_text.specs.declared.script_error.ScriptError.TheVariants.{Bad, OutOfMemory}
 use Rattle.script_text.specs.declared.script_error.ScriptKind.{ScriptKind}
 use Rattle.script_text.specs.declared.script_error.ScriptKind.TheVariants.{Form, Order, End}
-use Rattle.script_text.specs.ScriptLines.{Contents, contents_of, version_line, mac_line, capacity_line, start_line, drop_line, deny_line, event_line, first_lines, lines_saying, IsMac, IsCapacity, IsDeny, IsWord, IsEvent, lines_of, kept_lines}
+use Rattle.plain_text.specs.Lines.{lines_of}
+use Rattle.script_text.specs.ScriptLines.{Contents, contents_of, version_line, mac_line, capacity_line, start_line, drop_line, deny_line, event_line, first_lines, lines_saying, IsMac, IsCapacity, IsDeny, IsWord, IsEvent, kept_lines}
 use Rattle.script_text.specs.Scripts.{IsSound, Says, IsScriptText, IsOfForm, BeginsScript, Refuses}
 use Rattle.script_text.specs.ScriptReading.{◌>>>◌, first, first_six, event_answer, with_front, events_from, contents_from, script_answer, Tells, version_read, mac_read, capacity_read, start_read, drop_read, deny_read}
 use Rattle.script_text.proofs.Exactness.{exact-none_spelled, exact-refused}

@@ -11,7 +11,8 @@ use Rattle.std.proofs.lemmas.Slice.Eq.{bytes_eq-Decides}
 use Rattle.hex.specs.Hex.{encode_with}
 use Rattle.apf_coding.specs.Reading.{◌>>=◌}
 use Rattle.script_text.specs.Words.{mac_word, ethertype_word, SpellsNumber, SpellsMac, SpellsEthertype}
-use Rattle.script_text.specs.WordReading.{number_of, mac_of, ethertype_of, byte_of, digit_of}
+use Rattle.plain_text.specs.Numbers.{number_of}
+use Rattle.script_text.specs.WordReading.{mac_of, ethertype_of, byte_of, digit_of}
 use Rattle.script_text.specs.ScriptLines.{switch_word, deny_word, version_line, mac_line, capacity_line, start_line, drop_line, deny_line, IsMac, IsCapacity, IsDeny, IsWord}
 use Rattle.script_text.specs.ScriptReading.{behind, switch_of, ethertypes_of, few_of, deny_of, at_least, version_read, mac_read, capacity_read, start_read, drop_read, deny_read}
 use Rattle.script_text.proofs.Exactness.{Exact, exact-same, bind_some, if_some, some_inj}
@@ -119,7 +120,7 @@ switch_cases word on true other p q e = is_text word (codes "on") p ∙ ap switc
 switch_cases word on false true p q e = is_text word (codes "off") q ∙ ap switch_word (some_inj false on e)
 switch_cases word on false false p q e = absurd cc
 
-switch_of-word : (on : Bool) → switch_of (switch_word on) ≡ Some on
+pub switch_of-word : (on : Bool) → switch_of (switch_word on) ≡ Some on
 unfolding switch_of
 switch_of-word true = refl
 switch_of-word false = refl

@@ -4,8 +4,7 @@ use Rattle.std.specs.Fmt.{decimal}
 use Rattle.std.specs.List.{join_with_byte, flat_map}
 use Rattle.std.specs.Option.{option_map_or}
 use Rattle.hex.specs.Hex.{encode_lower}
-use Rattle.apf_coding.specs.declared.machine.Verdict.{Verdict}
-use Rattle.apf_coding.specs.declared.machine.Verdict.TheVariants.{Pass, Drop}
+use Rattle.apf_coding.specs.Names.{verdict_word}
 use Rattle.data_counters.specs.declared.counter.Counter.{Counter}
 use Rattle.data_counters.specs.Counters.{name_of, all_counters, counter_of}
 use Rattle.data_counters.specs.Memory.{value_of}
@@ -57,11 +56,6 @@ update_line (updates.Refused e) at = refused_line at e
 update_line (updates.NotInstalled need limit) at = kept_line at need limit
 
 -- ---- frames
-
--- what became of a frame
-unfoldable pub verdict_word : Verdict → List ℕ
-verdict_word Pass = codes "pass"
-verdict_word Drop = codes "drop"
 
 -- the counter's name, or `none`
 unfoldable pub counter_word : Option Counter → List ℕ

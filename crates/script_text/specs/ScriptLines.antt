@@ -1,7 +1,7 @@
 -- The lines of scripts, as the texts of what they say. This project's own format.
-use Rattle.std.specs.Prelude.{◌≡◌, ℕ, ◌^◌, ◌<◌, ◌≤◌, ◌||◌, ◌==◌, Bool, true, false, not, if◌then◌else◌, List, [], ◌∷◌, ◌++◌, length, map, filter, slice_index, codes, All, Some, None}
+use Rattle.std.specs.Prelude.{◌≡◌, ℕ, ◌^◌, ◌<◌, ◌≤◌, ◌||◌, ◌==◌, Bool, true, false, not, List, [], ◌∷◌, ◌++◌, length, map, filter, slice_index, codes, All, Some, None}
 use Rattle.std.specs.Fmt.{decimal}
-use Rattle.std.specs.List.{join_with_byte, onto_first, enumerate_from}
+use Rattle.std.specs.List.{join_with_byte, enumerate_from}
 use Rattle.hex.specs.Hex.{IsBytes}
 use Rattle.policy_state.specs.declared.state.Keepalive.{Keepalive}
 use Rattle.policy_state.specs.declared.update.Update.{Update}
@@ -10,6 +10,7 @@ use Rattle.policy_state.specs.declared.basis.Timed.{Timed}
 use Rattle.policy_state.specs.declared.basis.Script.{Script}
 use Rattle.script_text.specs.declared.words.Endpoint.{Endpoint}
 use Rattle.script_text.specs.Words.{mac_word, ethertype_word, address_word, endpoint_word}
+use Rattle.plain_text.specs.Lines.{lines_of}
 
 -- ---- what a script says
 
@@ -159,11 +160,6 @@ abbrev pub IsEvent : Timed → Type 0
 IsEvent e = IsWord e.time × IsUpdate e.update
 
 -- ---- the lines of a text
-
--- a line feed ends each line, and maybe not the last
-abbrev pub lines_of : List ℕ → List (List ℕ)
-lines_of [] = []
-lines_of (b ∷ rest) = if b == 10 then [] ∷ lines_of rest else onto_first b (lines_of rest)
 
 -- an empty line, or one that begins with `#`
 abbrev pub is_skipped : List ℕ → Bool

@@ -11,8 +11,10 @@ use Rattle.script_text.specs.declared.script_error.ScriptKind.TheVariants.{Form,
 use Rattle.script_text.specs.declared.script_error.ScriptError.{ScriptError}
 use Rattle.script_text.specs.declared.script_error.ScriptError.TheVariants.{Bad, OutOfMemory}
 use Rattle.script_text.specs.declared.lines.Lines.{Lines}
-use Rattle.script_text.specs.WordReading.{number_of, mac_of, ethertype_of, cut_of, address_of, endpoint_of}
-use Rattle.script_text.specs.ScriptLines.{Contents, lines_of, numbered, kept_lines, version_line}
+use Rattle.plain_text.specs.Numbers.{number_of}
+use Rattle.script_text.specs.WordReading.{mac_of, ethertype_of, cut_of, address_of, endpoint_of}
+use Rattle.plain_text.specs.Lines.{lines_of}
+use Rattle.script_text.specs.ScriptLines.{Contents, numbered, kept_lines, version_line}
 
 -- ---- the lines that are left
 

@@ -5,7 +5,8 @@ use Rattle.policy_state.specs.declared.basis.Timed.{Timed}
 use Rattle.policy_state.specs.declared.basis.Script.{Script}
 use Rattle.script_text.specs.declared.script_error.ScriptKind.{ScriptKind}
 use Rattle.script_text.specs.declared.script_error.ScriptKind.TheVariants.{Form, Order, End}
-use Rattle.script_text.specs.ScriptLines.{Contents, contents_of, version_line, mac_line, capacity_line, start_line, drop_line, deny_line, event_line, lines_saying, IsMac, IsCapacity, IsDeny, IsWord, IsEvent, lines_of, kept_lines}
+use Rattle.plain_text.specs.Lines.{lines_of}
+use Rattle.script_text.specs.ScriptLines.{Contents, contents_of, version_line, mac_line, capacity_line, start_line, drop_line, deny_line, event_line, lines_saying, IsMac, IsCapacity, IsDeny, IsWord, IsEvent, kept_lines}
 
 -- no event is earlier than the start or than an event before it
 pub record IsInOrder (start : ℕ) (events : List Timed) : Type 0 where

@@ -1,28 +1,13 @@
 -- Words by functions that compute: the value that a word spells, if it spells one.
-use Rattle.std.specs.Prelude.{ℕ, ◌+◌, ◌-◌, ◌*◌, ◌&&◌, ◌||◌, ◌==◌, nat_lt, nat_le, if◌then◌else◌, Bool, false, List, [], ◌∷◌, length, slice_index, Option, Some, None}
-use Rattle.std.specs.List.{list_all, position_or_len, before_first, after_first}
-use Rattle.std.specs.Char.{is_ascii_digit}
+use Rattle.std.specs.Prelude.{ℕ, ◌+◌, ◌-◌, ◌*◌, ◌&&◌, ◌==◌, nat_lt, nat_le, if◌then◌else◌, List, [], ◌∷◌, length, Option, Some, None}
+use Rattle.std.specs.List.{position_or_len, before_first, after_first}
 use Rattle.std.specs.Option.{option_map}
 use Rattle.std.specs.Int.{w16, w32, from_be_bytes}
-use Rattle.std.specs.Str.Parse.{digits_value}
 use Rattle.std.specs.Net.Reader.{read_ipv4, whole_value}
 use Rattle.apf_coding.specs.Reading.{◌>>=◌}
 use Rattle.policy_state.specs.declared.state.Address.{Address}
 use Rattle.script_text.specs.declared.words.Endpoint.{Endpoint}
-
--- ---- decimal numbers
-
--- digits of which the first isn't a surplus zero
-abbrev pub is_numeral : List ℕ → Bool
-is_numeral word = if (length word == 0) || ((slice_index word 0 == 48) && nat_lt 1 (length word)) then false else list_all is_ascii_digit word
-
--- a number up to a limit
-abbrev pub at_most : ℕ → ℕ → Option ℕ
-at_most limit n = if nat_le n limit then Some n else None
-
--- the number up to a limit that digits spell
-unfoldable pub number_of : ℕ → List ℕ → Option ℕ
-number_of limit word = if is_numeral word then at_most limit (digits_value 10 word) else None
+use Rattle.plain_text.specs.Numbers.{number_of}
 
 -- ---- hexadecimal digits
 

@@ -1,19 +1,9 @@
 //! The lines of a script.
 
-ghost use Rattle.std.specs.Prelude.{◌≡◌, ◌+◌, ◌<◌, ◌≤◌, ◌∷◌, length};
-ghost use Rattle.script_text.specs.ScriptLines.{lines_of, is_skipped};
+ghost use Rattle.std.specs.Prelude.{◌≡◌, ◌+◌, ◌≤◌, length};
+ghost use Rattle.script_text.specs.ScriptLines.{is_skipped};
 
-/// The first line, without its line feed, and the text behind it.
-fn first_line(text: &[u8]) -> (&[u8], &[u8])
-    requires { 0 < length text.now }
-    ensures lines { lines_of text.now ≡ result.0.now ∷ lines_of result.1.now }
-    ensures shorter { length result.1.now < length text.now }
-{
-    match text.iter().position(|b| *b == b'\n') {
-        Some(at) => (&text[..at], &text[at + 1..]),
-        None => (text, &[]),
-    }
-}
+use plain_text::first_line;
 
 /// Whether a line is empty or a comment.
 fn is_skipped(line: &[u8]) -> bool
@@ -33,7 +23,8 @@ pub(crate) struct Lines<'a> {
 
 impl<'a> Lines<'a> {
     ghost use Rattle.std.specs.Prelude.{IfNone, ◌≡◌, ◌+◌, ◌≤◌, length};
-    ghost use Rattle.script_text.specs.ScriptLines.{lines_of, kept_lines};
+    ghost use Rattle.plain_text.specs.Lines.{lines_of};
+    ghost use Rattle.script_text.specs.ScriptLines.{kept_lines};
     ghost use Rattle.script_text.specs.ScriptReading.{left, end_of, Gives};
 
     /// All lines of a text.

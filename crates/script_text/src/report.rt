@@ -2,10 +2,9 @@
 
 ghost use Rattle.std.specs.Prelude.{◌≡◌, ◌≢◌, ◌++◌, OnOk, OnErr, IfOk, string_bytes};
 ghost use Rattle.ra_records.specs.declared.span.RaError.TheVariants.{NotRa, OutOfMemory as NoMemory};
-ghost use Rattle.script_text.specs.Report.{left_word, gen_line, refusal_words, refused_line, kept_line, update_line, verdict_word, counter_word, lane_words, frame_line, bad_words, reply_words, ra_line};
+ghost use Rattle.script_text.specs.Report.{left_word, gen_line, refusal_words, refused_line, kept_line, update_line, counter_word, lane_words, frame_line, bad_words, reply_words, ra_line};
 
 use apf_base::{List, OutOfMemory};
-use apf_coding::Verdict;
 use data_counters::Counter;
 use policy_state::{Answer, StateError, UpdateReply};
 use ra_records::{RaError, RaReply};
@@ -120,16 +119,6 @@ pub fn print_update(
     out.append(List::of_text(update_text(alloc, *r, at)?))
 }
 
-#[tactic(auto, unfolding(crate::specs::Report::verdict_word))]
-fn verdict_word(verdict: Verdict) -> &'static str
-    ensures { result.now ≡ verdict_word verdict }
-{
-    match verdict {
-        Verdict::Pass => "pass",
-        Verdict::Drop => "drop",
-    }
-}
-
 #[tactic(auto, unfolding(crate::specs::Report::counter_word))]
 fn counter_word(counter: Option<Counter>) -> &'static str
     ensures { result.now ≡ counter_word counter }
@@ -156,7 +145,7 @@ fn frame_text(alloc: Global, k: u64, lane: Option<u32>, a: &Answer) -> Result<St
 {
     let lane = lane_words(alloc, lane)?;
     let (number, age, steps) = (a.number, a.age, a.steps);
-    let verdict = verdict_word(a.verdict);
+    let verdict = a.verdict.name();
     let counter = counter_word(a.counter);
     let mut text = String::with_capacity(alloc, ROOM)?;
     write!(

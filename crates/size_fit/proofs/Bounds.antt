@@ -1,9 +1,10 @@
 -- A record's weight is small: its sections and its lifetimes lie one behind the other in at most 1,514 bytes.
-use Rattle.std.proofs.Common.{◌≡◌, ℕ, zero, suc, ◌+◌, ◌-◌, ◌*◌, ◌<◌, ◌≤◌, Bool, true, false, cond, eqb, List, [], ◌∷◌, ◌++◌, length, arith, ltb-true, refl}
-use Rattle.std.specs.Prelude.{◌||◌, ◌&&◌, nat_lt}
+use Rattle.std.proofs.Common.{◌≡◌, ℕ, ◌+◌, ◌-◌, ◌*◌, ◌<◌, ◌≤◌, Bool, true, false, cond, eqb, List, [], ◌∷◌, length, arith, ltb-true, refl}
+use Rattle.std.specs.Prelude.{◌||◌, nat_lt}
 use Rattle.std.specs.List.{list_all, sum_by}
 use Rattle.std.proofs.lemmas.Bool.Decides.{nat_tests}
 use Rattle.std.proofs.lemmas.List.Sums.{sum_by-cons, sum_by-append}
+use Rattle.std.proofs.lemmas.Bool.{and_parts}
 use Rattle.ra_records.specs.declared.span.Span.{Span}
 use Rattle.ra_records.specs.Masks.{span, stretch, between, IsRising}
 use Rattle.ra_records.specs.Advert.{masks, sections_of, is_number, IsSound}
@@ -31,10 +32,6 @@ pub sections_are_light : (bytes : List ℕ) (lifetimes ss : List Span) → IsSou
 sections_are_light bytes lifetimes ss h e =
     rw e (omega (arith, between_weight (masks lifetimes) 0 (length bytes) (masks_rise bytes lifetimes h), h.short))
 
-and_true : (a b : Bool) → (a && b) ≡ true → (a ≡ true) × (b ≡ true)
-and_true true b h = (refl, h)
-and_true false b h = absurd cc
-
 two_or_four : (a b : Bool) (n : ℕ) → eqb n 2 ≡ a → eqb n 4 ≡ b → (a || b) ≡ true → 2 ≤ n
 two_or_four true b n e f h = grind (arith, nat_tests)
 two_or_four false true n e f h = grind (arith, nat_tests)
@@ -43,7 +40,7 @@ two_or_four false false n e f h = absurd cc
 count_of : (ms : List Span) (from end : ℕ) → IsRising from ms end → list_all is_number ms ≡ true → 2 * length ms + from ≤ end
 count_of [] from end h k = omega arith
 count_of (m ∷ ms) from end h k =
-    let parts = and_true (is_number m) (list_all is_number ms) k in
+    let parts = and_parts (is_number m) (list_all is_number ms) k in
     omega (arith, h.0, two_or_four (eqb m.len 2) (eqb m.len 4) m.len refl refl parts.0, count_of ms (m.at + m.len) end h.1 parts.1)
 
 pub lifetimes_are_few : (bytes : List ℕ) (lifetimes ls : List Span) → IsSound bytes lifetimes → ls ≡ lifetimes → length ls ≤ 757

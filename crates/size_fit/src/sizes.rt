@@ -4,28 +4,15 @@ ghost use Rattle.std.specs.Prelude.{◌≡◌, ◌≤◌, ◌+◌, ◌*◌, leng
 ghost use Rattle.std.specs.List.{sum_by, count_by};
 ghost use Rattle.size_fit.specs.Sizes.{base, section_weight, weight};
 
-use policy_state::{Config, FilterState, Keepalive};
+use policy_state::{Config, FilterState};
 use ra_records::{Record, Span};
-
-fn count_keepalives(slots: &[Option<Keepalive>; 8]) -> u32
-    ensures value { result ≡ count_by is_some slots.now }
-    ensures most { result ≤ 8 }
-{
-    let mut count = 0;
-    for slot in slots {
-        if slot.is_some() {
-            count += 1;
-        }
-    }
-    count
-}
 
 /// The bytes that a program needs without records: 512, and 9 for each denied ethertype and 80 for each keepalive.
 pub fn base(config: &Config, s: &FilterState) -> u32
     ensures value { result ≡ base config.now s.now }
     ensures most { result ≤ 1440 }
 {
-    512 + 9 * config.deny.len() as u32 + 80 * count_keepalives(&s.keepalives)
+    512 + 9 * config.deny.len() as u32 + 80 * s.count_keepalives()
 }
 
 fn sections_weight(sections: &[Span]) -> u32

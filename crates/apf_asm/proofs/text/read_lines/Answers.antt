@@ -1,7 +1,7 @@
 -- Each turn takes a line off the rest.
 use Rattle.std.proofs.Common.{ℕ, ◌+◌, List, ap, ◌∙◌, arith}
 use Rattle.std.proofs.lemmas.Result.{err_from_is_err_and}
-use Rattle.apf_asm.specs.TextLines.{lines_of}
+use Rattle.plain_text.specs.Lines.{lines_of}
 use Rattle.apf_asm.specs.TextReading.{with_front, lines_answer, text_answer}
 use Rattle.apf_asm.proofs.TextTelling.{turn, named, ended, no_lines}
 use Rattle.apf_asm.proofs.text.read_lines.Goals as goal

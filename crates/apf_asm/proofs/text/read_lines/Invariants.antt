@@ -1,6 +1,6 @@
 -- What the items and the rest of the text stand for is what the whole text stands for.
 use Rattle.std.proofs.Common.{◌≡◌, ◌+◌, ◌≤◌, length}
-use Rattle.apf_asm.specs.TextLines.{lines_of}
+use Rattle.plain_text.specs.Lines.{lines_of}
 use Rattle.apf_asm.specs.TextReading.{with_front, lines_answer, text_answer}
 use Rattle.apf_asm.proofs.text.read_lines.Given as goal
 

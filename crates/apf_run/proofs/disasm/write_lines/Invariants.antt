@@ -1,7 +1,7 @@
 use Rattle.std.proofs.Common.{◌≡◌, ◌≤◌, ◌++◌, List, ℕ, map, drop}
 use Rattle.apf_disasm.specs.Listing.{entry_of}
 use Rattle.apf_disasm.specs.Printing.{written}
-use Rattle.apf_run.specs.Lines.{AppendsAll}
+use Rattle.apf_base.specs.Streams.{AppendsAll}
 use Rattle.apf_run.proofs.disasm.write_lines.Given as goal
 
 abbrev pub invariant-loop-line : goal.invariant-loop-line

@@ -1,5 +1,5 @@
 use Rattle.std.proofs.Common.{◌≤◌, take}
-use Rattle.filter_report.specs.Lines.{AppendsAll}
+use Rattle.apf_base.specs.Streams.{AppendsAll}
 use Rattle.filter_report.proofs.writing.write_lines.Given as goal
 
 abbrev pub invariant-loop-line : goal.invariant-loop-line

@@ -1,4 +1,4 @@
-use Rattle.std.proofs.Common.{◌≤◌, arith}
+use Rattle.std.proofs.Common.{arith}
 use Rattle.size_fit.proofs.Bounds.{sections_are_light, lifetimes_are_few}
 use Rattle.size_fit.proofs.sizes.weight.Goals as goal
 

@@ -1,7 +1,6 @@
 use Rattle.std.proofs.Common.{refl, arith, sym, ap, ◌∙◌, ◌++◌, ◌∷◌, ◌+◌, [], List, ℕ, drop, subst, OnOk, OnErr}
 use Rattle.std.specs.List.{concat}
-use Rattle.apf_base.specs.Streams.{AppendsFront}
-use Rattle.filter_report.specs.Lines.{AppendsAll}
+use Rattle.apf_base.specs.Streams.{AppendsFront, AppendsAll}
 use Rattle.std.proofs.lemmas.Result.{err_from_is_err_and}
 use Rattle.filter_core.specs.Replay.{Arrival, after_frame}
 use Rattle.filter_report.proofs.Adding.{adds_these, breaks_these, breaks_none}

@@ -1,9 +1,8 @@
 use Rattle.std.proofs.Common.{sym, ap, subst, ◌∙◌, ◌+◌, List, ℕ, drop, OnOk, OnErr}
 use Rattle.std.specs.List.{concat}
-use Rattle.apf_base.specs.Streams.{AppendsFront}
+use Rattle.apf_base.specs.Streams.{AppendsFront, AppendsAll}
 use Rattle.filter_report.proofs.Summing.{totals_of}
 use Rattle.filter_report.specs.Along.{InCourse, Reporting}
-use Rattle.filter_report.specs.Lines.{AppendsAll}
 use Rattle.filter_report.specs.Text.{last_lines}
 use Rattle.filter_report.proofs.filtering.Filtering.write_totals.Goals as goal
 

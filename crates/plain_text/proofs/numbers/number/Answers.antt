@@ -1,8 +1,8 @@
 use Rattle.std.proofs.Common.{◌≡◌, ◌∙◌, sym, true}
 use Rattle.std.specs.Str.{IsUtf8}
-use Rattle.script_text.specs.WordReading.{is_numeral}
-use Rattle.script_text.proofs.NumberWords.{parsed, numeral_is_text, not_numeral, same_text, no_text}
-use Rattle.script_text.proofs.numbers.number.Goals as goal
+use Rattle.plain_text.specs.Numbers.{is_numeral}
+use Rattle.plain_text.proofs.Numerals.{parsed, numeral_is_text, not_numeral, same_text, no_text}
+use Rattle.plain_text.proofs.numbers.number.Goals as goal
 
 pub returns-then-not-is_numeral : goal.returns-then-not-is_numeral
 returns-then-not-is_numeral c = sym (not_numeral 4294967295 c.args.word.now cc)

@@ -1,9 +1,9 @@
 -- The lines of a text, one after another.
-use Rattle.std.proofs.Common.{◌≡◌, ℕ, suc, ◌+◌, ◌-◌, ◌<◌, ◌≤◌, Bool, true, false, cond, not, eqb, ltb, List, [], ◌∷◌, length, take, drop, Some, None, refl, ap, arith}
-use Rattle.std.specs.List.{position_or_len, onto_first}
+use Rattle.std.proofs.Common.{◌≡◌, ℕ, suc, ◌+◌, ◌-◌, ◌<◌, ◌≤◌, Bool, true, false, cond, not, eqb, ltb, List, [], ◌∷◌, length, take, drop, Some, None, refl, sym, ap, ◌∙◌, arith}
+use Rattle.std.specs.List.{position_or_len, onto_first, after_first}
 use Rattle.std.proofs.lemmas.Bool.{ltb-true, ltb-false}
-use Rattle.std.proofs.lemmas.List.{take_all, length-drop}
-use Rattle.script_text.specs.ScriptLines.{lines_of}
+use Rattle.std.proofs.lemmas.List.{take_all, drop_all, length-drop}
+use Rattle.plain_text.specs.Lines.{lines_of}
 
 -- the place of the first line feed
 abbrev pub feed : List ℕ → ℕ
@@ -60,3 +60,16 @@ lines_of-found text at e =
 
 pub lines_of-absent : (text : List ℕ) → 0 < length text → None ≡ cond (ltb (feed text) (length text)) (Some (feed text)) None → lines_of text ≡ text ∷ []
 lines_of-absent text lt e = lines_of-no_feed text (absent (feed text) (length text) (ltb (feed text) (length text)) refl e) lt
+
+-- what stands behind the first line feed
+
+pub after_found : (text : List ℕ) (at : ℕ) → Some at ≡ cond (ltb (feed text) (length text)) (Some (feed text)) None
+    → take (length text - (at + 1)) (drop (at + 1) text) ≡ after_first (λ b. eqb b 10) text
+after_found text at e =
+    let f = found (feed text) at (length text) (ltb (feed text) (length text)) refl e in
+    rest_whole text (at + 1) ∙ ap (λ (k : ℕ). drop (k + 1) text) f.0
+
+pub after_absent : (text : List ℕ) → None ≡ cond (ltb (feed text) (length text)) (Some (feed text)) None → [] ≡ after_first (λ b. eqb b 10) text
+after_absent text e =
+    let past = absent (feed text) (length text) (ltb (feed text) (length text)) refl e in
+    sym (drop_all (feed text + 1) text (omega arith))
