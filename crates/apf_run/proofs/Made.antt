@@ -10,7 +10,7 @@ use Rattle.pcap_files.specs.declared.kinds.Placed.{Placed}
 use Rattle.policy_state.specs.States.{start}
 use Rattle.policy_state.specs.declared.basis.Script.{Script}
 use Rattle.size_fit.specs.Sizes.{base, limit_of}
-use Rattle.script_text.proofs.Faults.{says_again}
+use Rattle.script_text.proofs.Said.{says_again}
 use Rattle.script_text.specs.ScriptLines.{Contents, contents_of}
 use Rattle.script_text.specs.ScriptReading.{Tells, script_answer}
 use Rattle.script_text.specs.Scripts.{Says}

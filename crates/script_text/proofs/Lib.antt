@@ -6,7 +6,10 @@ pub mod DenyLists
 pub mod Telling
 pub mod LineWords
 pub mod EventWords
-pub mod Faults
+pub mod Said
+pub mod FaultsFound
+pub mod FaultsAgain
+pub mod OneAnswer
 pub mod Grammar
 pub mod LeftWords
 pub mod Pieces

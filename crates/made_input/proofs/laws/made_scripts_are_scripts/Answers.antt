@@ -1,4 +1,4 @@
-use Rattle.script_text.proofs.Faults.{says_again}
+use Rattle.script_text.proofs.Said.{says_again}
 use Rattle.made_input.specs.MadeScripts.{made_script, made_contents}
 use Rattle.made_input.proofs.Said.{said, script_short}
 use Rattle.made_input.proofs.laws.made_scripts_are_scripts.Goals as goal

@@ -1,6 +1,6 @@
 -- The function's answer is the grammar's.
 use Rattle.script_text.proofs.EventCounts.{few_found}
-use Rattle.script_text.proofs.Faults.{told_found, told_only, told_named, told_refused}
+use Rattle.script_text.proofs.OneAnswer.{told_found, told_only, told_named, told_refused}
 use Rattle.script_text.proofs.script.read_script.Goals as goal
 
 pub returns-clause-found : goal.returns-clause-found

@@ -1,4 +1,6 @@
-use Rattle.script_text.proofs.Faults.{says_found, says_again, refused_found, refused_again}
+use Rattle.script_text.proofs.Said.{says_found, says_again}
+use Rattle.script_text.proofs.FaultsFound.{refused_found}
+use Rattle.script_text.proofs.FaultsAgain.{refused_again}
 use Rattle.script_text.proofs.script_laws.scripts_are_answered.Goals as goal
 
 pub returns-clause-says : goal.returns-clause-says

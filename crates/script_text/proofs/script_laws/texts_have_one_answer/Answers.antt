@@ -1,4 +1,4 @@
-use Rattle.script_text.proofs.Faults.{either, not_both, one_script, one_fault}
+use Rattle.script_text.proofs.OneAnswer.{either, not_both, one_script, one_fault}
 use Rattle.script_text.proofs.script_laws.texts_have_one_answer.Goals as goal
 
 pub returns-clause-either : goal.returns-clause-either
