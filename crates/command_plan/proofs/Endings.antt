@@ -1,0 +1,323 @@
+-- What follows from a plan that was followed.
+use Rattle.std.proofs.Common.{◌≡◌, ◌≤◌, ◌<◌, ◌⊎◌, inl, inr, ℕ, List, [], ◌∷◌, ◌++◌, length, Option, IfSome, Result, Ok, Err, refl, sym, ap, subst, ◌∙◌, arith, append-nil, Bool, true, false, IsTrue}
+use Rattle.std.specs.Prelude.{⊤}
+use Rattle.std.specs.List.{concat}
+use Rattle.std.specs.Io.KnownBytes.{Appends, Keeps, IsAtEnd}
+use Rattle.std.proofs.KnownBytes.{Appends-kept, Appends-nil, Appends-trans}
+use Rattle.apf_base.specs.Causes.{Rose}
+use Rattle.apf_base.specs.Streams.{AppendsFront, AppendsAll}
+use Rattle.command_plan.specs.declared.fault.Input.{Input}
+use Rattle.command_plan.specs.declared.fault.Refusal.{Refusal}
+use Rattle.command_plan.specs.declared.fault.Refusal.TheVariants.{BadCapture, BadScript, BadText, Twice, Unknown, Backward, TooLong, CodeTooLong, TooLarge}
+use Rattle.command_plan.specs.declared.fault.Fault.{Fault}
+use Rattle.command_plan.specs.declared.fault.Fault.TheVariants as faults
+use Rattle.command_plan.specs.Ending.{EndsAs, MayEnd, Leaves, IsOwn, Calm}
+use Rattle.command_plan.specs.Files.{limit_of}
+use Rattle.command_plan.specs.Meaning.{Meaning, nothing, command, IsAccepted, Does, MayEndBy, ReadsWholeFor}
+use Rattle.command_plan.specs.Status.{status_of, refusal_status}
+use Rattle.command_plan.specs.Plan.{Plan, Done, Refuse, Ask, Pick, Say, MayHold, ReadsWhole}
+use Rattle.command_plan.specs.Follows.{Stage, Later, Idle, Rests, EndsHere, Asks, Picks, Says, Ends, Follows}
+use Rattle.command_plan.specs.Follows as f
+use Rattle.command_plan.proofs.Saying.{all_and_all, all_and_front}
+use Rattle.command_plan.proofs.Stages.{later_trans, rose_before, Appends-before, front_before, keeps_nil, no_fault}
+
+module _ {A : Type 0} where
+  -- no count fell, and the files are the same
+  pub later : (p : Plan A) (a b : Stage) (r : Result A Fault) → Follows p a b r → Later a b
+  unfolding Follows
+  later (Done x) a b r (f.Ends.no_memory h) = h.idle.later
+  later (Done x) a b r (f.Ends.ended is s) = s.idle.later
+  later (Refuse refusal) a b r (f.Ends.no_memory h) = h.idle.later
+  later (Refuse refusal) a b r (f.Ends.ended is s) = s.idle.later
+  later (Ask input path rest) a b r (f.Asks.no_memory h) = h.idle.later
+  later (Ask input path rest) a b r (f.Asks.unopened h rose) = h.idle.later
+  later (Ask input path rest) a b r (f.Asks.unread h rose) = h.idle.later
+  later (Ask input path rest) a b r (f.Asks.too_long h told) = h.idle.later
+  later (Ask input path rest) a b r (f.Asks.asked bytes c held idle whole more) = later_trans a c b idle.later (later (rest bytes) c b r more)
+  later (Pick P rest) a b r (f.Picks.no_memory h) = h.idle.later
+  later (Pick P rest) a b r (f.Picks.picked x has more) = later (rest x) a b r more
+  later (Say lines rest) a b r (f.Says.no_memory is l first) = l
+  later (Say lines rest) a b r (f.Says.unwritten is l rose front) = l
+  later (Say lines rest) a b r (f.Says.said c l left appends more) = later_trans a c b l (later rest c b r more)
+
+  -- ---- causes from outside
+
+  -- a cause from outside has its count, and the words are accepted
+  abbrev pub Owes : Stage → Stage → Result A Fault → Type 0
+  Owes a b (Err (faults.Read input)) = Rose a.shelf.faults b.shelf.faults
+  Owes a b (Err (faults.Open input)) = Rose a.shelf.misses b.shelf.misses
+  Owes a b (Err faults.Write) = Rose a.out.faults b.out.faults
+  Owes a b (Err faults.Usage) = ⊥
+  Owes a b result = ⊤
+
+  owes_before : (a c b : Stage) (r : Result A Fault) → Later a c → Owes c b r → Owes a b r
+  owes_before a c b (Ok x) l h = tt
+  owes_before a c b (Err (faults.Refused refusal)) l h = tt
+  owes_before a c b (Err faults.OutOfMemory) l h = tt
+  owes_before a c b (Err faults.Usage) l h = h
+  owes_before a c b (Err (faults.Read input)) l h = rose_before a.shelf.faults c.shelf.faults b.shelf.faults l.faults h
+  owes_before a c b (Err faults.Write) l h = rose_before a.out.faults c.out.faults b.out.faults l.out_faults h
+  owes_before a c b (Err (faults.Open input)) l h = rose_before a.shelf.misses c.shelf.misses b.shelf.misses l.misses h
+
+  owes_at : (a b : Stage) (r end : Result A Fault) → r ≡ end → Owes a b end → Owes a b r
+  owes_at a b r end is h = subst (λ (x : Result A Fault). Owes a b x) (sym is) h
+
+  pub owes : (p : Plan A) (a b : Stage) (r : Result A Fault) → Follows p a b r → Owes a b r
+  unfolding Follows
+  owes (Done x) a b r (f.Ends.no_memory h) = owes_at a b r (Err faults.OutOfMemory) h.is tt
+  owes (Done x) a b r (f.Ends.ended is s) = owes_at a b r (Ok x) is tt
+  owes (Refuse refusal) a b r (f.Ends.no_memory h) = owes_at a b r (Err faults.OutOfMemory) h.is tt
+  owes (Refuse refusal) a b r (f.Ends.ended is s) = owes_at a b r (Err (faults.Refused refusal)) is tt
+  owes (Ask input path rest) a b r (f.Asks.no_memory h) = owes_at a b r (Err faults.OutOfMemory) h.is tt
+  owes (Ask input path rest) a b r (f.Asks.unopened h rose) = owes_at a b r (Err (faults.Open input)) h.is rose
+  owes (Ask input path rest) a b r (f.Asks.unread h rose) = owes_at a b r (Err (faults.Read input)) h.is rose
+  owes (Ask input path rest) a b r (f.Asks.too_long h told) = owes_at a b r (Err (faults.Refused (TooLong input))) h.is tt
+  owes (Ask input path rest) a b r (f.Asks.asked bytes c held idle whole more) = owes_before a c b r idle.later (owes (rest bytes) c b r more)
+  owes (Pick P rest) a b r (f.Picks.no_memory h) = owes_at a b r (Err faults.OutOfMemory) h.is tt
+  owes (Pick P rest) a b r (f.Picks.picked x has more) = owes (rest x) a b r more
+  owes (Say lines rest) a b r (f.Says.no_memory is l first) = owes_at a b r (Err faults.OutOfMemory) is tt
+  owes (Say lines rest) a b r (f.Says.unwritten is l rose front) = owes_at a b r (Err faults.Write) is rose
+  owes (Say lines rest) a b r (f.Says.said c l left appends more) = owes_before a c b r l (owes rest c b r more)
+
+  -- ---- what stands on the sink
+
+  leaves_nothing : (old new : Option (List ℕ)) (r : Result A Fault) → Keeps old new → Leaves old new [] r
+  leaves_nothing old new (Ok x) h = keeps_nil old new h
+  leaves_nothing old new (Err (faults.Refused refusal)) h = keeps_nil old new h
+  leaves_nothing old new (Err faults.OutOfMemory) h = keeps_nil old new h
+  leaves_nothing old new (Err faults.Usage) h = keeps_nil old new h
+  leaves_nothing old new (Err (faults.Read input)) h = keeps_nil old new h
+  leaves_nothing old new (Err (faults.Open input)) h = keeps_nil old new h
+  leaves_nothing old new (Err faults.Write) h = ([], [], refl, keeps_nil old new h)
+
+  leaves_kept : (a b c : Option (List ℕ)) (lines : List (List ℕ)) (r : Result A Fault) → Keeps a b → Leaves b c lines r → Leaves a c lines r
+  leaves_kept a b c lines (Ok x) k h = Appends-before a b c (concat lines) k h
+  leaves_kept a b c lines (Err (faults.Refused refusal)) k h = Appends-before a b c (concat lines) k h
+  leaves_kept a b c lines (Err faults.OutOfMemory) k h = Appends-before a b c (concat lines) k h
+  leaves_kept a b c lines (Err faults.Usage) k h = Appends-before a b c (concat lines) k h
+  leaves_kept a b c lines (Err (faults.Read input)) k h = Appends-before a b c (concat lines) k h
+  leaves_kept a b c lines (Err (faults.Open input)) k h = Appends-before a b c (concat lines) k h
+  leaves_kept a b c lines (Err faults.Write) k h = front_before a b c (concat lines) k h
+
+  leaves_behind : (a b c : Option (List ℕ)) (xs ys : List (List ℕ)) (r : Result A Fault) → AppendsAll a b xs → Leaves b c ys r → Leaves a c (xs ++ ys) r
+  leaves_behind a b c xs ys (Ok x) k h = all_and_all a b c xs ys k h
+  leaves_behind a b c xs ys (Err (faults.Refused refusal)) k h = all_and_all a b c xs ys k h
+  leaves_behind a b c xs ys (Err faults.OutOfMemory) k h = all_and_all a b c xs ys k h
+  leaves_behind a b c xs ys (Err faults.Usage) k h = all_and_all a b c xs ys k h
+  leaves_behind a b c xs ys (Err (faults.Read input)) k h = all_and_all a b c xs ys k h
+  leaves_behind a b c xs ys (Err (faults.Open input)) k h = all_and_all a b c xs ys k h
+  leaves_behind a b c xs ys (Err faults.Write) k h = all_and_front a b c xs ys k h
+
+  leaves_at : (a b : Option (List ℕ)) (lines : List (List ℕ)) (r end : Result A Fault) → r ≡ end → Leaves a b lines end → Leaves a b lines r
+  leaves_at a b lines r end is h = subst (λ (e : Result A Fault). Leaves a b lines e) (sym is) h
+
+  may_end_at : (p : Plan A) (a c : Stage) (lines : List (List ℕ)) (r : Result A Fault) → Later a c → MayEnd p c.shelf.file lines r → MayEnd p a.shelf.file lines r
+  may_end_at p a c lines r l h = subst (λ (files : List ℕ → Option (List ℕ)). MayEnd p files lines r) l.files h
+
+  abbrev pub Stands : Plan A → Stage → Stage → Result A Fault → Type 0
+  Stands p a b r = (lines : List (List ℕ)) × MayEnd p a.shelf.file lines r × Leaves a.out.held b.out.held lines r
+
+  -- the sink has got lines with which the plan may end so
+  pub stands : (p : Plan A) (a b : Stage) (r : Result A Fault) → Follows p a b r → Stands p a b r
+  unfolding Follows MayEnd
+  stands (Done x) a b r (f.Ends.no_memory h) = ([], (refl, inr h.is), leaves_nothing a.out.held b.out.held r h.idle.held)
+  stands (Done x) a b r (f.Ends.ended is s) = ([], (refl, inl is), leaves_nothing a.out.held b.out.held r s.idle.held)
+  stands (Refuse refusal) a b r (f.Ends.no_memory h) = ([], (refl, inr h.is), leaves_nothing a.out.held b.out.held r h.idle.held)
+  stands (Refuse refusal) a b r (f.Ends.ended is s) = ([], (refl, inl is), leaves_nothing a.out.held b.out.held r s.idle.held)
+  stands (Ask input path rest) a b r (f.Asks.no_memory h) = ([], inl (refl, faults.OutOfMemory, h.is, tt), leaves_nothing a.out.held b.out.held r h.idle.held)
+  stands (Ask input path rest) a b r (f.Asks.unopened h rose) = ([], inl (refl, faults.Open input, h.is, refl), leaves_nothing a.out.held b.out.held r h.idle.held)
+  stands (Ask input path rest) a b r (f.Asks.unread h rose) = ([], inl (refl, faults.Read input, h.is, refl), leaves_nothing a.out.held b.out.held r h.idle.held)
+  stands (Ask input path rest) a b r (f.Asks.too_long h told) =
+      ([], inl (refl, faults.Refused (TooLong input), h.is, (refl, told)), leaves_nothing a.out.held b.out.held r h.idle.held)
+  stands (Ask input path rest) a b r (f.Asks.asked bytes c held idle whole more) =
+      let all = stands (rest bytes) c b r more in (
+        all.0,
+        inr (bytes, held, may_end_at (rest bytes) a c all.0 r idle.later all.1),
+        leaves_kept a.out.held c.out.held b.out.held all.0 r idle.held all.2,
+      )
+  stands (Pick P rest) a b r (f.Picks.no_memory h) = ([], inl (refl, inl h.is), leaves_nothing a.out.held b.out.held r h.idle.held)
+  stands (Pick P rest) a b r (f.Picks.picked x has more) =
+      let all = stands (rest x) a b r more in
+      (all.0, inr (x, has, all.1), all.2)
+  stands (Say lines rest) a b r (f.Says.no_memory is l first) =
+      (first.0, inl ((first.1, first.2), inl is), leaves_at a.out.held b.out.held first.0 r (Err faults.OutOfMemory) is first.3)
+  stands (Say lines rest) a b r (f.Says.unwritten is l rose front) =
+      (lines, inl (([], sym (append-nil lines)), inr is), leaves_at a.out.held b.out.held lines r (Err faults.Write) is front)
+  stands (Say lines rest) a b r (f.Says.said c l left appends more) =
+      let all = stands rest c b r more in (
+        lines ++ all.0,
+        inr (all.0, refl, may_end_at rest a c all.0 r l all.1),
+        leaves_behind a.out.held c.out.held b.out.held lines all.0 r appends all.2,
+      )
+
+  -- ---- where no count rose
+
+  pub own : (a b : Stage) (r : Result A Fault) → Owes a b r → Calm a b → (r ≡ Err faults.OutOfMemory) ⊎ IsOwn r
+  own a b (Ok x) h q = inr tt
+  own a b (Err (faults.Refused refusal)) h q = inr tt
+  own a b (Err faults.OutOfMemory) h q = inl refl
+  own a b (Err faults.Usage) h q = absurd h
+  own a b (Err (faults.Read input)) h q = absurd (q.faults h)
+  own a b (Err (faults.Open input)) h q = absurd (q.misses h)
+  own a b (Err faults.Write) h q = absurd (q.out_faults h)
+
+  own_leaves : (old new : Option (List ℕ)) (lines : List (List ℕ)) (r : Result A Fault) → IsOwn r → Leaves old new lines r → AppendsAll old new lines
+  own_leaves old new lines (Ok x) o h = h
+  own_leaves old new lines (Err (faults.Refused refusal)) o h = h
+  own_leaves old new lines (Err faults.OutOfMemory) o h = absurd o
+  own_leaves old new lines (Err faults.Usage) o h = h
+  own_leaves old new lines (Err (faults.Read input)) o h = absurd o
+  own_leaves old new lines (Err (faults.Open input)) o h = absurd o
+  own_leaves old new lines (Err faults.Write) o h = absurd o
+
+  -- ---- the file that was asked for last
+
+  -- with an answer it was read whole
+  pub read_whole : (p : Plan A) (asked : Bool) (a b : Stage) (x : A) → ReadsWhole asked p → (IsTrue asked → IsAtEnd a.shelf.left) → Follows p a b (Ok x) → IsAtEnd b.shelf.left
+  unfolding Follows ReadsWhole
+  read_whole (Done y) asked a b x h at (f.Ends.no_memory e) = no_fault faults.OutOfMemory a b x e
+  read_whole (Done y) asked a b x h at (f.Ends.ended is s) = subst IsAtEnd (sym s.left) (at h)
+  read_whole (Refuse refusal) asked a b x h at (f.Ends.no_memory e) = no_fault faults.OutOfMemory a b x e
+  read_whole (Refuse refusal) asked a b x h at (f.Ends.ended is s) = absurd (cc)
+  read_whole (Ask input path rest) asked a b x h at (f.Asks.no_memory e) = no_fault faults.OutOfMemory a b x e
+  read_whole (Ask input path rest) asked a b x h at (f.Asks.unopened e rose) = no_fault (faults.Open input) a b x e
+  read_whole (Ask input path rest) asked a b x h at (f.Asks.unread e rose) = no_fault (faults.Read input) a b x e
+  read_whole (Ask input path rest) asked a b x h at (f.Asks.too_long e told) = no_fault (faults.Refused (TooLong input)) a b x e
+  read_whole (Ask input path rest) asked a b x h at (f.Asks.asked bytes c held idle end more) = read_whole (rest bytes) true c b x (h bytes) (λ _. end) more
+  read_whole (Pick P rest) asked a b x h at (f.Picks.no_memory e) = no_fault faults.OutOfMemory a b x e
+  read_whole (Pick P rest) asked a b x h at (f.Picks.picked y has more) = read_whole (rest y) asked a b x (h y has) at more
+  read_whole (Say lines rest) asked a b x h at (f.Says.no_memory is l first) = absurd (cc)
+  read_whole (Say lines rest) asked a b x h at (f.Says.unwritten is l rose front) = absurd (cc)
+  read_whole (Say lines rest) asked a b x h at (f.Says.said c l left appends more) = read_whole rest asked c b x h (λ t. subst IsAtEnd (sym left) (at t)) more
+
+-- ---- statuses
+
+-- the statuses of refusals lie between those of wrong words and of want of memory
+refusal_low : (refusal : Refusal) → 64 < refusal_status refusal
+refusal_low (BadCapture fault) = omega arith
+refusal_low (BadScript line kind) = omega arith
+refusal_low (BadText line kind) = omega arith
+refusal_low (Twice item label) = omega arith
+refusal_low (Unknown item label) = omega arith
+refusal_low (Backward item label) = omega arith
+refusal_low (TooLong input) = omega arith
+refusal_low CodeTooLong = omega arith
+refusal_low (TooLarge need limit) = omega arith
+
+refusal_high : (refusal : Refusal) → refusal_status refusal < 70
+refusal_high (BadCapture fault) = omega arith
+refusal_high (BadScript line kind) = omega arith
+refusal_high (BadText line kind) = omega arith
+refusal_high (Twice item label) = omega arith
+refusal_high (Unknown item label) = omega arith
+refusal_high (Backward item label) = omega arith
+refusal_high (TooLong input) = omega arith
+refusal_high CodeTooLong = omega arith
+refusal_high (TooLarge need limit) = omega arith
+
+module _ (a b : Stage) where
+  read_owes : (end : Result (Unit {0}) Fault) → Owes a b end → status_of end ≡ 71 → Rose a.shelf.faults b.shelf.faults
+  read_owes (Err (faults.Read input)) h is = h
+  read_owes (Ok x) h is = absurd (omega arith)
+  read_owes (Err (faults.Refused refusal)) h is = absurd (omega (arith, refusal_high refusal))
+  read_owes (Err faults.OutOfMemory) h is = absurd (omega arith)
+  read_owes (Err faults.Usage) h is = absurd (omega arith)
+  read_owes (Err faults.Write) h is = absurd (omega arith)
+  read_owes (Err (faults.Open input)) h is = absurd (omega arith)
+
+  write_owes : (end : Result (Unit {0}) Fault) → Owes a b end → status_of end ≡ 72 → Rose a.out.faults b.out.faults
+  write_owes (Err faults.Write) h is = h
+  write_owes (Ok x) h is = absurd (omega arith)
+  write_owes (Err (faults.Refused refusal)) h is = absurd (omega (arith, refusal_high refusal))
+  write_owes (Err faults.OutOfMemory) h is = absurd (omega arith)
+  write_owes (Err faults.Usage) h is = absurd (omega arith)
+  write_owes (Err (faults.Read input)) h is = absurd (omega arith)
+  write_owes (Err (faults.Open input)) h is = absurd (omega arith)
+
+  open_owes : (end : Result (Unit {0}) Fault) → Owes a b end → status_of end ≡ 73 → Rose a.shelf.misses b.shelf.misses
+  open_owes (Err (faults.Open input)) h is = h
+  open_owes (Ok x) h is = absurd (omega arith)
+  open_owes (Err (faults.Refused refusal)) h is = absurd (omega (arith, refusal_high refusal))
+  open_owes (Err faults.OutOfMemory) h is = absurd (omega arith)
+  open_owes (Err faults.Usage) h is = absurd (omega arith)
+  open_owes (Err (faults.Read input)) h is = absurd (omega arith)
+  open_owes (Err faults.Write) h is = absurd (omega arith)
+
+  usage_owes : (end : Result (Unit {0}) Fault) → Owes a b end → status_of end ≡ 64 → ⊥
+  usage_owes (Err faults.Usage) h is = h
+  usage_owes (Ok x) h is = omega arith
+  usage_owes (Err (faults.Refused refusal)) h is = omega (arith, refusal_low refusal)
+  usage_owes (Err faults.OutOfMemory) h is = omega arith
+  usage_owes (Err (faults.Read input)) h is = omega arith
+  usage_owes (Err faults.Write) h is = omega arith
+  usage_owes (Err (faults.Open input)) h is = omega arith
+
+at_end : (p : Plan (Unit {0})) (a b : Stage) (end : Result (Unit {0}) Fault) → Follows p a b end → status_of end ≡ 0 → ReadsWhole false p → IsAtEnd b.shelf.left
+at_end p a b (Ok x) h is whole = read_whole p false a b x whole (λ t. absurd (cc)) h
+at_end p a b (Err (faults.Refused refusal)) h is whole = absurd (omega (arith, refusal_low refusal))
+at_end p a b (Err faults.OutOfMemory) h is whole = absurd (omega arith)
+at_end p a b (Err faults.Usage) h is whole = absurd (omega arith)
+at_end p a b (Err (faults.Read input)) h is whole = absurd (omega arith)
+at_end p a b (Err faults.Write) h is whole = absurd (omega arith)
+at_end p a b (Err (faults.Open input)) h is whole = absurd (omega arith)
+
+-- ---- words
+
+-- words that mean nothing end as wrong words, or by want of memory
+wrong : (a b : Stage) (end : Result (Unit {0}) Fault) → Does nothing a b end → (status_of end ≡ 64) ⊎ (status_of end ≡ 70)
+wrong a b end (f.Ends.no_memory h) = inr (ap status_of h.is)
+wrong a b end (f.Ends.ended is s) = inl (ap status_of is)
+
+neither : {P : Type 0} (n s : ℕ) → (s ≡ 64) ⊎ (s ≡ 70) → s ≡ n → (n ≡ 64 → ⊥) → (n ≡ 70 → ⊥) → P
+neither n s (inl h) is a b = absurd (a (sym is ∙ h))
+neither n s (inr h) is a b = absurd (b (sym is ∙ h))
+
+module _ (a b : Stage) (end : Result (Unit {0}) Fault) where
+  pub does_later : (m : Meaning) → Does m a b end → Later a b
+  does_later nothing (f.Ends.no_memory h) = h.idle.later
+  does_later nothing (f.Ends.ended is s) = s.idle.later
+  does_later (command p) h = later p a b end h
+
+  pub does_stands : (m : Meaning) → Does m a b end → (lines : List (List ℕ)) × MayEndBy m a.shelf.file lines end × Leaves a.out.held b.out.held lines end
+  does_stands nothing (f.Ends.no_memory h) = ([], (refl, inr h.is), leaves_nothing a.out.held b.out.held end h.idle.held)
+  does_stands nothing (f.Ends.ended is s) = ([], (refl, inl is), leaves_nothing a.out.held b.out.held end s.idle.held)
+  does_stands (command p) h = stands p a b end h
+
+  does_own : (m : Meaning) → Does m a b end → Calm a b → (end ≡ Err faults.OutOfMemory) ⊎ IsOwn end
+  does_own nothing (f.Ends.no_memory h) q = inl h.is
+  does_own nothing (f.Ends.ended is s) q = inr (subst (λ (e : Result (Unit {0}) Fault). IsOwn e) (sym is) tt)
+  does_own (command p) h q = own a b end (owes p a b end h) q
+
+  -- where no count rose, the call came to an end of its own and wrote all lines, but for want of memory
+  pub does_complete : (m : Meaning) → Does m a b end → Calm a b
+      → (status_of end ≡ 70) ⊎ (IsOwn end × (lines : List (List ℕ)) × MayEndBy m a.shelf.file lines end × AppendsAll a.out.held b.out.held lines)
+  does_complete m h q =
+      let s = does_stands m h in
+      elim (does_own m h q) [
+        | inl lacks ↦ inl (ap status_of lacks)
+        | inr o ↦ inr (o, s.0, s.1, own_leaves a.out.held b.out.held s.0 end o s.2)
+      ]
+
+  pub does_read : (m : Meaning) → Does m a b end → status_of end ≡ 71 → Rose a.shelf.faults b.shelf.faults
+  does_read nothing h is = neither 71 (status_of end) (wrong a b end h) is (λ e. omega arith) (λ e. omega arith)
+  does_read (command p) h is = read_owes a b end (owes p a b end h) is
+
+  pub does_write : (m : Meaning) → Does m a b end → status_of end ≡ 72 → Rose a.out.faults b.out.faults
+  does_write nothing h is = neither 72 (status_of end) (wrong a b end h) is (λ e. omega arith) (λ e. omega arith)
+  does_write (command p) h is = write_owes a b end (owes p a b end h) is
+
+  pub does_open : (m : Meaning) → Does m a b end → status_of end ≡ 73 → Rose a.shelf.misses b.shelf.misses
+  does_open nothing h is = neither 73 (status_of end) (wrong a b end h) is (λ e. omega arith) (λ e. omega arith)
+  does_open (command p) h is = open_owes a b end (owes p a b end h) is
+
+  pub does_usage : (m : Meaning) → Does m a b end → status_of end ≡ 64 → IsAccepted m → ⊥
+  does_usage nothing h is accepted = accepted
+  does_usage (command p) h is accepted = usage_owes a b end (owes p a b end h) is
+
+  pub does_refuse : (m : Meaning) → Does m a b end → (IsAccepted m → ⊥) → (status_of end ≡ 64) ⊎ (status_of end ≡ 70)
+  does_refuse nothing h not = wrong a b end h
+  does_refuse (command p) h not = absurd (not tt)
+
+  pub does_whole : (m : Meaning) → Does m a b end → status_of end ≡ 0 → ReadsWholeFor m → IsAtEnd b.shelf.left
+  does_whole nothing h is whole = absurd whole
+  does_whole (command p) h is whole = at_end p a b end h is whole

@@ -1,0 +1,44 @@
+-- What a plan may open first, and behind its first step.
+use Rattle.std.proofs.Common.{◌≡◌, ℕ, List, Option, None, Result, Ok, Err, subst}
+use Rattle.command_plan.specs.declared.fault.Input.{Input}
+use Rattle.command_plan.specs.declared.fault.Fault.{Fault}
+use Rattle.command_plan.specs.declared.fault.Fault.TheVariants as faults
+use Rattle.command_plan.specs.declared.fault.Refusal.TheVariants.{TooLong}
+use Rattle.command_plan.specs.Follows.{Shelving, Stage, Follows, Reads, sinking}
+use Rattle.command_plan.specs.Follows as f
+use Rattle.command_plan.specs.Plan.{Plan, ◌>>=◌, asks, picks, says, MayFetch, MayHold}
+use Rattle.command_plan.proofs.Stages.{no_fault}
+
+module _ {A : Type 0} (may : List ℕ → Type 0) where
+  pub may_ask : (input : Input) (path : List ℕ) (next : List ℕ → Plan A) → MayFetch may (asks input path >>= next) → may path
+  unfolding MayFetch ◌>>=◌
+  may_ask input path next h = h.0
+
+  pub behind_ask : (input : Input) (path : List ℕ) (next : List ℕ → Plan A) (bytes : List ℕ) → MayFetch may (asks input path >>= next) → MayFetch may (next bytes)
+  unfolding MayFetch ◌>>=◌
+  behind_ask input path next bytes h = h.1 bytes
+
+  pub behind_pick : {X : Type 0} (P : X → Type 0) (next : X → Plan A) (x : X) → P x → MayFetch may (picks P >>= next) → MayFetch may (next x)
+  unfolding MayFetch ◌>>=◌
+  behind_pick P next x has h = h x has
+
+  pub behind_say : (lines : List (List ℕ)) (next : Unit {0} → Plan A) → MayFetch may (says lines >>= next) → MayFetch may (next tt)
+  unfolding MayFetch ◌>>=◌
+  behind_say lines next h = h
+
+-- ---- what was read
+
+read_held : (input : Input) (path bytes : List ℕ) (a b : Stage) → Follows (asks input path) a b (Ok bytes) → MayHold input (a.shelf.file path) bytes
+unfolding Follows
+read_held input path bytes a b (f.Asks.no_memory h) = no_fault faults.OutOfMemory a b bytes h
+read_held input path bytes a b (f.Asks.unopened h rose) = no_fault (faults.Open input) a b bytes h
+read_held input path bytes a b (f.Asks.unread h rose) = no_fault (faults.Read input) a b bytes h
+read_held input path bytes a b (f.Asks.too_long h told) = no_fault (faults.Refused (TooLong input)) a b bytes h
+read_held input path bytes a b (f.Asks.asked all c held idle whole (f.Ends.no_memory h)) = no_fault faults.OutOfMemory c b bytes h
+read_held input path bytes a b (f.Asks.asked all c held idle whole (f.Ends.ended is s)) =
+    let e : all ≡ bytes = cc in
+    subst (λ (l : List ℕ). MayHold input (a.shelf.file path) l) e held
+
+-- what a file held that was read
+pub asked : (input : Input) (path bytes : List ℕ) (a b : Shelving) → Reads (asks input path) a b (Ok bytes) → MayHold input (a.file path) bytes
+asked input path bytes a b h = read_held input path bytes _ _ (h.at (sinking None 0))

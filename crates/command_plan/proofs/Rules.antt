@@ -1,0 +1,119 @@
+-- How a call is put together from its steps, as rules for `search`.
+use Rattle.std.proofs.Common.{◌≡◌, ℕ, Bool, true, false, List, Option, None, Some, Result, Ok, Err, sym, subst}
+use Rattle.command_plan.specs.declared.fault.Fault.{Fault}
+use Rattle.command_plan.specs.declared.fault.Fault.TheVariants as faults
+use Rattle.command_plan.specs.Meaning.{Meaning, nothing, command, spelled, named_so, Does, MayFetchFor}
+use Rattle.command_plan.specs.Plan.{Plan, says, MayFetch, ◌>>=◌}
+use Rattle.command_plan.specs.Follows as f
+use Rattle.command_plan.proofs.Stages.{idle_refl, rests_refl}
+use Rattle.command_plan.specs.Follows.{Stage, Shelving, Sinking, Follows, Reads, Writes, Thinks, stage}
+use Rattle.command_plan.proofs.Following.{then_on, then_as, then_pick, picked, fails, lacks, lacks_by, err_is, done, refused}
+use Rattle.command_plan.proofs.Fetching.{may_ask, behind_ask, behind_pick, behind_say}
+
+module _ {A B : Type 0} where
+  pub read_then : (p : Plan A) (next : A → Plan B) (x : A) (a c : Shelving) (out : Sinking) (b : Stage) (r : Result B Fault) → Reads p a c (Ok x)
+      → Follows (next x) (stage c out) b r → Follows (p >>= next) (stage a out) b r
+  read_then p next x a c out b r first more = then_on p next x (stage a out) (stage c out) b r (first.at out) more
+
+  pub read_fails : (p : Plan A) (next : A → Plan B) (fault : Fault) (a b : Shelving) (out : Sinking) (r : Result B Fault) → Reads p a b (Err fault) → r ≡ Err fault
+      → Follows (p >>= next) (stage a out) (stage b out) r
+  read_fails p next fault a b out r first is = fails p next fault (stage a out) (stage b out) r is (first.at out)
+
+  -- the answer is known to be this
+  pub read_as : (p : Plan A) (next : A → Plan B) (o x : A) (a c : Shelving) (out : Sinking) (b : Stage) (r : Result B Fault) → Reads p a c (Ok o) → o ≡ x
+      → Follows (next x) (stage c out) b r → Follows (p >>= next) (stage a out) b r
+  read_as p next o x a c out b r first is more = then_as p next o x (stage a out) (stage c out) b r is (first.at out) more
+
+  pub think_as : (p : Plan A) (next : A → Plan B) (o x : A) (a b : Stage) (r : Result B Fault) → Thinks p (Ok o) → o ≡ x → Follows (next x) a b r → Follows (p >>= next) a b r
+  think_as p next o x a b r first is more = then_as p next o x a a b r is (first.at a) more
+
+  pub write_then : (p : Plan A) (next : A → Plan B) (x : A) (a c : Sinking) (shelf : Shelving) (b : Stage) (r : Result B Fault) → Writes p a c (Ok x)
+      → Follows (next x) (stage shelf c) b r → Follows (p >>= next) (stage shelf a) b r
+  write_then p next x a c shelf b r first more = then_on p next x (stage shelf a) (stage shelf c) b r (first.at shelf) more
+
+  pub write_fails : (p : Plan A) (next : A → Plan B) (fault : Fault) (a b : Sinking) (shelf : Shelving) (r : Result B Fault) → Writes p a b (Err fault) → r ≡ Err fault
+      → Follows (p >>= next) (stage shelf a) (stage shelf b) r
+  write_fails p next fault a b shelf r first is = fails p next fault (stage shelf a) (stage shelf b) r is (first.at shelf)
+
+  pub think_then : (p : Plan A) (next : A → Plan B) (x : A) (a b : Stage) (r : Result B Fault) → Thinks p (Ok x) → Follows (next x) a b r → Follows (p >>= next) a b r
+  think_then p next x a b r first more = then_on p next x a a b r (first.at a) more
+
+  pub think_fails : (p : Plan A) (next : A → Plan B) (fault : Fault) (a : Stage) (r : Result B Fault) → Thinks p (Err fault) → r ≡ Err fault → Follows (p >>= next) a a r
+  think_fails p next fault a r first is = fails p next fault a a r is (first.at a)
+
+module _ {B : Type 0} where
+  -- the lines that were written are the ones that were to be
+  pub say_then : (lines due : List (List ℕ)) (next : Unit {0} → Plan B) (a c : Sinking) (shelf : Shelving) (b : Stage) (r : Result B Fault) → Writes (says lines) a c (Ok tt) → lines ≡ due
+      → Follows (next tt) (stage shelf c) b r → Follows (says due >>= next) (stage shelf a) b r
+  say_then lines due next a c shelf b r first is more =
+      write_then (says due) next tt a c shelf b r (subst (λ (l : List (List ℕ)). Writes (says l) a c (Ok tt)) is first) more
+
+  pub say_fails : (lines due : List (List ℕ)) (next : Unit {0} → Plan B) (fault : Fault) (a b : Sinking) (shelf : Shelving) (r : Result B Fault) → Writes (says lines) a b (Err fault)
+      → lines ≡ due → r ≡ Err fault → Follows (says due >>= next) (stage shelf a) (stage shelf b) r
+  say_fails lines due next fault a b shelf r first is e =
+      write_fails (says due) next fault a b shelf r (subst (λ (l : List (List ℕ)). Writes (says l) a b (Err fault)) is first) e
+
+module _ {A : Type 0} where
+  pub reads_at : (p : Plan A) (a b : Shelving) (out : Sinking) (r : Result A Fault) → Reads p a b r → Follows p (stage a out) (stage b out) r
+  reads_at p a b out r h = h.at out
+
+  pub writes_at : (p : Plan A) (a b : Sinking) (shelf : Shelving) (r : Result A Fault) → Writes p a b r → Follows p (stage shelf a) (stage shelf b) r
+  writes_at p a b shelf r h = h.at shelf
+
+  pub reads_by : (p : Plan A) (a b : Shelving) (r : Result A Fault) → ((out : Sinking) → Follows p (stage a out) (stage b out) r) → Reads p a b r
+  reads_by p a b r h = record { at = h }
+
+  pub writes_by : (p : Plan A) (a b : Sinking) (r : Result A Fault) → ((shelf : Shelving) → Follows p (stage shelf a) (stage shelf b) r) → Writes p a b r
+  writes_by p a b r h = record { at = h }
+
+  pub thinks_by : (p : Plan A) (r : Result A Fault) → ((s : Stage) → Follows p s s r) → Thinks p r
+  thinks_by p r h = record { at = h }
+
+pub written : (lines due : List (List ℕ)) (a b : Sinking) (shelf : Shelving) (r : Result (Unit {0}) Fault) → Writes (says lines) a b r → lines ≡ due
+    → Follows (says due) (stage shelf a) (stage shelf b) r
+written lines due a b shelf r first is = subst (λ (l : List (List ℕ)). Follows (says l) (stage shelf a) (stage shelf b) r) is (first.at shelf)
+
+pub ruleset following = (read_then, read_as, read_fails, say_then, say_fails, think_as, write_then, write_fails, think_then, think_fails, reads_at, writes_at, written, lacks_by, err_is, then_pick, picked, refused, done, then_on, fails, reads_by, writes_by, thinks_by)
+
+-- ---- words
+
+module _ (a b : Stage) (r : Result (Unit {0}) Fault) where
+  pub does_some : {X : Type 0} (o : Option X) (next : X → Meaning) (x : X) → o ≡ Some x → Does (next x) a b r → Does (spelled o next) a b r
+  does_some {X = X} o next x is h = subst (λ (p : Option X). Does (spelled p next) a b r) (sym is) h
+
+  pub does_this : (t : Bool) (this other : Meaning) → t ≡ true → Does this a b r → Does (named_so t this other) a b r
+  does_this t this other is h = subst (λ (u : Bool). Does (named_so u this other) a b r) (sym is) h
+
+  pub does_other : (t : Bool) (this other : Meaning) → t ≡ false → Does other a b r → Does (named_so t this other) a b r
+  does_other t this other is h = subst (λ (u : Bool). Does (named_so u this other) a b r) (sym is) h
+
+  pub does_command : (plan : Plan (Unit {0})) → Follows plan a b r → Does (command plan) a b r
+  does_command plan h = h
+
+pub does_nothing : (a : Stage) (r : Result (Unit {0}) Fault) → r ≡ Err faults.Usage → Does nothing a a r
+does_nothing a r is = f.Ends.ended is (rests_refl a)
+
+pub does_none : {X : Type 0} (o : Option X) (next : X → Meaning) (a : Stage) (r : Result (Unit {0}) Fault) → o ≡ None → r ≡ Err faults.Usage → Does (spelled o next) a a r
+does_none {X = X} o next a r none is = subst (λ (p : Option X). Does (spelled p next) a a r) (sym none) (does_nothing a r is)
+
+-- words for which there was no memory
+pub does_lack : (m : Meaning) (a : Stage) (r : Result (Unit {0}) Fault) → r ≡ Err faults.OutOfMemory → Does m a a r
+does_lack nothing a r is = f.Ends.no_memory (record { is = is; idle = idle_refl a })
+does_lack (command plan) a r is = lacks plan a a r is (idle_refl a)
+
+module _ (may : List ℕ → Type 0) where
+  pub may_some : {X : Type 0} (o : Option X) (next : X → Meaning) (x : X) → o ≡ Some x → MayFetchFor may (spelled o next) → MayFetchFor may (next x)
+  may_some {X = X} o next x is h = subst (λ (p : Option X). MayFetchFor may (spelled p next)) is h
+
+  pub may_this : (t : Bool) (this other : Meaning) → t ≡ true → MayFetchFor may (named_so t this other) → MayFetchFor may this
+  may_this t this other is h = subst (λ (u : Bool). MayFetchFor may (named_so u this other)) is h
+
+  pub may_other : (t : Bool) (this other : Meaning) → t ≡ false → MayFetchFor may (named_so t this other) → MayFetchFor may other
+  may_other t this other is h = subst (λ (u : Bool). MayFetchFor may (named_so u this other)) is h
+
+  pub may_command : (plan : Plan (Unit {0})) → MayFetchFor may (command plan) → MayFetch may plan
+  may_command plan h = h
+
+pub ruleset meaning = (does_some, does_none, does_this, does_other, does_command, does_nothing, does_lack)
+
+pub ruleset fetching = (may_ask, behind_ask, behind_pick, behind_say)

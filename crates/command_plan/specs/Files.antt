@@ -1,0 +1,33 @@
+-- The files that commands read, and how reading one fails.
+use Rattle.std.specs.Prelude.{◌≡◌, ⊤, ℕ, List, codes}
+use Rattle.command_plan.specs.declared.fault.FileKind.{FileKind}
+use Rattle.command_plan.specs.declared.fault.FileKind.TheVariants.{Program, Text, Script, Capture}
+use Rattle.command_plan.specs.declared.fault.Input.{Input}
+use Rattle.command_plan.specs.declared.fault.Refusal.TheVariants.{TooLong}
+use Rattle.command_plan.specs.declared.fault.Fault.{Fault}
+use Rattle.command_plan.specs.declared.fault.Fault.TheVariants.{Refused, OutOfMemory, Read, Open}
+
+-- the most bytes of a file of each kind
+abbrev pub limit_of : FileKind → ℕ
+limit_of Program = 65535
+limit_of Text = 1048576
+limit_of Script = 1048576
+limit_of Capture = 67108864
+
+abbrev pub kind_name : FileKind → List ℕ
+kind_name Program = codes "program"
+kind_name Text = codes "text"
+kind_name Script = codes "script"
+kind_name Capture = codes "capture"
+
+-- the file of this kind whose name stands at this place among the words
+abbrev pub input : FileKind → ℕ → Input
+input kind word = record { kind = kind; word = word }
+
+-- how reading a file fails, and what it owes where the file is too long
+abbrev pub FileFails : Input → Type 0 → Fault → Type 0
+FileFails input long OutOfMemory = ⊤
+FileFails input long (Read which) = which ≡ input
+FileFails input long (Open which) = which ≡ input
+FileFails input long (Refused (TooLong which)) = (which ≡ input) × long
+FileFails input long fault = ⊥

@@ -1,0 +1,80 @@
+-- What a command does, as a tree.
+use Rattle.std.specs.Prelude.{◌≡◌, ℕ, ◌≤◌, List, [], ◌∷◌, length, Option, IfSome, Result, Ok, Err, ⊤, Bool, true, false, IsTrue}
+use Rattle.hex.specs.Hex.{IsBytes}
+use Rattle.command_plan.specs.Files.{limit_of}
+use Rattle.command_plan.specs.declared.fault.Input.{Input}
+use Rattle.command_plan.specs.declared.fault.Refusal.{Refusal}
+
+-- What a call does that is to answer an A.
+pub data Plan (A : Type 0) : Type 1 where
+  -- it answers this
+  Done : A → Plan A
+  -- it ends here, refused
+  Refuse : Refusal → Plan A
+  -- it opens a file and reads all its bytes, of which there may be as many as its kind allows, and goes on with them
+  Ask : Input → List ℕ → (List ℕ → Plan A) → Plan A
+  -- it chooses something with this property, and goes on with it: one choice for all that follows
+  Pick : {X : Type 0} → (X → Type 0) → (X → Plan A) → Plan A
+  -- it writes these lines, each as one piece, and goes on
+  Say : List (List ℕ) → Plan A → Plan A
+
+-- one plan behind another
+infixl 10 ◌>>=◌
+unfoldable pub ◌>>=◌ : {A B : Type 0} → Plan A → (A → Plan B) → Plan B
+(Done x) >>= next = next x
+(Refuse refusal) >>= next = Refuse refusal
+(Ask input path rest) >>= next = Ask input path (λ bytes. rest bytes >>= next)
+(Pick P rest) >>= next = Pick P (λ x. rest x >>= next)
+(Say lines rest) >>= next = Say lines (rest >>= next)
+
+-- ---- the plans of one step
+
+-- all bytes of a file
+abbrev pub asks : Input → List ℕ → Plan (List ℕ)
+asks input path = Ask input path Done
+
+-- something with this property
+abbrev pub picks : {X : Type 0} → (X → Type 0) → Plan X
+picks P = Pick P Done
+
+-- these lines, each as one piece
+abbrev pub says : List (List ℕ) → Plan (Unit {0})
+says lines = Say lines (Done tt)
+
+-- there is nothing to go on with
+abbrev pub never : {A : Type 0} → Plan A
+never = Pick {X = ⊥} (λ x. ⊤) (λ x. absurd x)
+
+-- it goes on unless this is refused
+abbrev pub unless : Option Refusal → Plan (Unit {0})
+unless Option.None = Done tt
+unless (Option.Some refusal) = Refuse refusal
+
+-- it writes some lines with this property, and then ends, refused or not
+abbrev pub texts : (List (List ℕ) → Type 0) → Option Refusal → Plan (Unit {0})
+texts IsText refusal = picks IsText >>= λ lines. says lines >>= λ _. unless refusal
+
+-- ---- what is read off a plan
+
+-- what a file may hold, where its bytes are told: bytes, of which there are as many as its kind allows
+pub record MayHold (input : Input) (told : Option (List ℕ)) (bytes : List ℕ) : Type 0 where
+  pub fits : length bytes ≤ limit_of input.kind
+  pub are : IsBytes bytes
+  pub same : IfSome told (λ all. bytes ≡ all)
+
+-- the shelf may fetch each file that the plan may open
+unfoldable pub MayFetch : {A : Type 0} → (List ℕ → Type 0) → Plan A → Type 0
+MayFetch may (Done x) = ⊤
+MayFetch may (Refuse refusal) = ⊤
+MayFetch may (Ask input path rest) = may path × ((bytes : List ℕ) → MayFetch may (rest bytes))
+MayFetch may (Pick {X = X} P rest) = (x : X) → P x → MayFetch may (rest x)
+MayFetch may (Say lines rest) = MayFetch may rest
+
+-- The plan asks for a file before it comes to its answer, so the last one is then read to its end. The test says whether
+-- one was asked for before.
+unfoldable pub ReadsWhole : {A : Type 0} → Bool → Plan A → Type 0
+ReadsWhole asked (Done x) = IsTrue asked
+ReadsWhole asked (Refuse refusal) = ⊤
+ReadsWhole asked (Ask input path rest) = (bytes : List ℕ) → ReadsWhole true (rest bytes)
+ReadsWhole asked (Pick {X = X} P rest) = (x : X) → P x → ReadsWhole asked (rest x)
+ReadsWhole asked (Say lines rest) = ReadsWhole asked rest

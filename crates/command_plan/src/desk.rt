@@ -1,0 +1,50 @@
+//! What a command works on: what is seen of a shelf and of a sink is one ghost member each, and each step follows a plan.
+
+ghost use Rattle.std.specs.Prelude.{◌≡◌, ◌∷◌, [], refl};
+ghost use Rattle.command_plan.specs.Follows.{Reads, Writes, Shelving, Sinking, shelving, sinking};
+ghost use Rattle.command_plan.specs.Plan.{asks, says};
+
+use crate::fault::{Fault, Input};
+use crate::steps::{ask, say};
+use apf_base::{List, Shelf, Sink, Source};
+use std::alloc::Global;
+
+/// A shelf whose steps follow plans.
+pub trait Files: Shelf {
+    ghost seen: { Self → Shelving };
+
+    /// All bytes of the file of this name, which is to have no more than its kind allows.
+    fn ask(&mut self, alloc: Global, name: &str, input: Input) -> Result<List<u8>, Fault>
+        requires { Self.may name.now }
+        ensures { Reads (asks input name.now) (seen self.old) (seen self.new) result };
+}
+
+impl<H: Shelf> Files for H {
+    ghost seen = { λ s. shelving (H.file s) (H.left s) (H.faults s) (H.misses s) };
+
+    fn ask(&mut self, alloc: Global, name: &str, input: Input) -> Result<List<u8>, Fault> {
+        ask(alloc, self, name, input)
+    }
+}
+
+/// A sink whose steps follow plans.
+pub trait Lines: Sink {
+    ghost seen: { Self → Sinking };
+
+    /// Writes a line, as one piece.
+    fn say(&mut self, line: &[u8]) -> Result<(), Fault>
+        ensures { Writes (says (line.now ∷ [])) (seen self.old) (seen self.new) result };
+
+    // What is seen is what the sink holds, and its count.
+    ghost seen_is: { (s : Self) → seen s ≡ sinking (Self.held s) (Self.faults s) };
+}
+
+impl<O: Sink> Lines for O {
+    ghost seen = { λ s. sinking (O.held s) (O.faults s) };
+
+    fn say(&mut self, line: &[u8]) -> Result<(), Fault> {
+        say(self, line)
+    }
+
+    ghost seen_is = { λ s. refl };
+}
