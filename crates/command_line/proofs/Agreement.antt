@@ -1,19 +1,19 @@
 -- What clap says of plain words, and what the words are split into.
-use Rattle.std.proofs.Common.{◌≡◌, ◌∙◌, ◌==◌, Bool, true, false, true≢false, refl, sym, ap, subst, inl, inr, List, [], ◌∷◌, Option, None, codes, if◌then◌else◌}
+use Rattle.std.proofs.Common.{◌≡◌, ◌∙◌, ◌==◌, Bool, true, false, true≢false, refl, sym, ap, ap₂, subst, inl, inr, List, [], ◌∷◌, Option, Some, None, if◌then◌else◌}
 use Rattle.std.specs.List.{list_all}
-use Rattle.std.specs.Str.{bytes_eq}
+use Rattle.std.specs.Option.{option_and_then, option_map}
 use Rattle.std.proofs.lemmas.Bool.{eqb-true}
-use Rattle.std.proofs.lemmas.Slice.Eq.{bytes_eq-Decides}
-use Rattle.clap.specs.Walk.{Row, Text, idle, subcommand_met}
-use Rattle.clap.specs.Simple.{Shape, subcommand_of}
+use Rattle.clap.specs.Walk.{Row, Text}
+use Rattle.clap.specs.Simple.{subcommand_of}
 use Rattle.clap.specs.Kinds.{IsAmong, Kinds}
 use Rattle.clap.specs.Faults.{fault_of}
 use Rattle.clap.specs.declared.error.kind.ErrorKind.{ErrorKind}
 use Rattle.clap.proofs.WalkLemmas.{both}
-use Rattle.command_line.specs.Lines.{Line, exec, asm, disasm, program_for, filter, make, live, one, two, three, four, is_plain, line_of, split_of}
-use Rattle.command_line.specs.Parses.{commands, line_found, line_in, exec_in, asm_in, disasm_in, program_in, filter_in, make_in, live_in}
-use Rattle.command_line.proofs.Leaves.{Agrees, Meets, exec_sub, exec_meets, asm_sub, asm_meets, disasm_sub, disasm_meets, program_sub, program_meets, filter_sub, filter_meets, make_sub, make_meets, live_sub, live_meets}
-use Rattle.command_line.proofs.Named.{IsSub, names, named_fault, named_found, unnamed_fault, no_words_fault}
+use Rattle.command_line.specs.Lines.{Line, Usage, is_plain, line_of, split_of, usage_of}
+use Rattle.command_line.specs.Parses.{commands, line_in}
+use Rattle.command_line.proofs.Leaves.{Agrees, meets, sub}
+use Rattle.command_line.proofs.Named.{named_fault, named_found, no_words_fault, unnamed_fault}
+use Rattle.command_line.proofs.Table.{has_places, is_sub, met_sub}
 
 abbrev pub Splits : List Text → Type 0
 Splits words = Agrees (fault_of commands words) (line_in (subcommand_of commands words)) (split_of words)
@@ -22,84 +22,32 @@ agrees_as : (a b : Kinds) (x y l m : Option Line) → a ≡ b → x ≡ y → l 
 agrees_as a b x y l m faults found line (inl h) = inl (faults ∙ h.0, found ∙ h.1 ∙ sym line)
 agrees_as a b x y l m faults found line (inr h) = inr (λ e. h.0 (sym faults ∙ e), line ∙ h.1)
 
-is_text : (a b : Text) → bytes_eq a b ≡ true → a ≡ b
-is_text a b e = (bytes_eq-Decides a b).0 e
-
-other_way : (a b : Text) → bytes_eq a b ≡ false → bytes_eq b a ≡ false
-other_way a b e = go (bytes_eq b a) refl
-  where
-    go : (t : Bool) → bytes_eq b a ≡ t → bytes_eq b a ≡ false
-    go true is = absurd (true≢false (sym ((bytes_eq-Decides a b).1 (sym (is_text b a is))) ∙ e))
-    go false is = is
-
-splits_named : (name : Text) (s : Shape) (words : List Text) (found : List Row → Option Line) (line : List Text → Option Line) → IsSub name s → list_all is_plain words ≡ true
-    → ((rows : List Row) → line_found name rows ≡ found rows) → line_of name words ≡ line words → Meets s found line words → Splits (name ∷ words)
-splits_named name s words found line sub plain reads is meets =
-    let split : split_of (name ∷ words) ≡ line words = rw plain is in
-    agrees_as _ _ _ _ _ _ (named_fault name s words sub plain) (ap line_in (named_found name s words sub plain) ∙ reads _) split meets
-
 -- ---- by the first word
 
-module _ (name : Text) (words : List Text) (plain_name : is_plain name ≡ true) (plain : list_all is_plain words ≡ true) where
-  unnamed : bytes_eq name (codes "exec") ≡ false → bytes_eq name (codes "asm") ≡ false → bytes_eq name (codes "disasm") ≡ false → bytes_eq name (codes "program") ≡ false
-      → bytes_eq name (codes "filter") ≡ false → bytes_eq name (codes "make") ≡ false → bytes_eq name (codes "live") ≡ false → Splits (name ∷ words)
-  unnamed a b c d e f g =
-      let none : subcommand_met names idle name ≡ None =
-      rw (other_way name (codes "exec") a, other_way name (codes "asm") b, other_way name (codes "disasm") c, other_way name (codes "program") d, other_way name (codes "filter") e, other_way name (codes "make") f, other_way name (codes "live") g) refl in
-      let split : split_of (name ∷ words) ≡ None = rw (plain, a, b, c, d, e, f, g) refl in
-      inr (unnamed_fault name words plain_name none, split)
+-- what the words are split into, by the row of the name
+abbrev split_by : Text → List Text → Bool → Option Usage → Option Line
+split_by name words plain row = if plain then option_and_then (λ u. line_of name u.words words) row else None
 
-  -- the name is this text
-  as_text : (text : Text) → bytes_eq name text ≡ true → Splits (text ∷ words) → Splits (name ∷ words)
-  as_text text is h = subst (λ n. Splits (n ∷ words)) (sym (is_text name text is)) h
+module _ (name : Text) (words : List Text) (plain : list_all is_plain words ≡ true) where
+  at_row : (u : Usage) → usage_of name ≡ Some u → Splits (name ∷ words)
+  at_row u is =
+      let s = sub name u.words in
+      agrees_as _ _ _ _ _ _ (named_fault name s words (is_sub name u is) plain) (ap line_in (named_found name s words (is_sub name u is) plain))
+      (ap₂ (split_by name words) plain is) (meets name u.words words (has_places name u is))
 
-  at_live : (t : Bool) → bytes_eq name (codes "live") ≡ t → bytes_eq name (codes "exec") ≡ false → bytes_eq name (codes "asm") ≡ false → bytes_eq name (codes "disasm") ≡ false
-      → bytes_eq name (codes "program") ≡ false → bytes_eq name (codes "filter") ≡ false → bytes_eq name (codes "make") ≡ false → Splits (name ∷ words)
-  at_live true is a b c d e f = as_text (codes "live") is
-      (splits_named (codes "live") live_sub words live_in (three live) (record { met = refl; found = refl; label = refl; no_help = refl }) plain (λ rows. refl) refl (live_meets words))
-  at_live false is a b c d e f = unnamed a b c d e f is
+  at_none : is_plain name ≡ true → usage_of name ≡ None → Splits (name ∷ words)
+  at_none plain_name none =
+      inr (unnamed_fault name words plain_name (met_sub name ∙ ap (option_map (λ (u : Usage). u.name)) none), ap₂ (split_by name words) plain none)
 
-  at_make : (t : Bool) → bytes_eq name (codes "make") ≡ t → bytes_eq name (codes "exec") ≡ false → bytes_eq name (codes "asm") ≡ false → bytes_eq name (codes "disasm") ≡ false
-      → bytes_eq name (codes "program") ≡ false → bytes_eq name (codes "filter") ≡ false → Splits (name ∷ words)
-  at_make true is a b c d e = as_text (codes "make") is
-      (splits_named (codes "make") make_sub words make_in (two make) (record { met = refl; found = refl; label = refl; no_help = refl }) plain (λ rows. refl) refl (make_meets words))
-  at_make false is a b c d e = at_live (bytes_eq name (codes "live")) refl a b c d e is
-
-  at_filter : (t : Bool) → bytes_eq name (codes "filter") ≡ t → bytes_eq name (codes "exec") ≡ false → bytes_eq name (codes "asm") ≡ false → bytes_eq name (codes "disasm") ≡ false
-      → bytes_eq name (codes "program") ≡ false → Splits (name ∷ words)
-  at_filter true is a b c d = as_text (codes "filter") is
-      (splits_named (codes "filter") filter_sub words filter_in (two filter) (record { met = refl; found = refl; label = refl; no_help = refl }) plain (λ rows. refl) refl
-      (filter_meets words))
-  at_filter false is a b c d = at_make (bytes_eq name (codes "make")) refl a b c d is
-
-  at_program : (t : Bool) → bytes_eq name (codes "program") ≡ t → bytes_eq name (codes "exec") ≡ false → bytes_eq name (codes "asm") ≡ false → bytes_eq name (codes "disasm") ≡ false
-      → Splits (name ∷ words)
-  at_program true is a b c = as_text (codes "program") is
-      (splits_named (codes "program") program_sub words program_in (four program_for) (record { met = refl; found = refl; label = refl; no_help = refl }) plain (λ rows. refl) refl
-      (program_meets words))
-  at_program false is a b c = at_filter (bytes_eq name (codes "filter")) refl a b c is
-
-  at_disasm : (t : Bool) → bytes_eq name (codes "disasm") ≡ t → bytes_eq name (codes "exec") ≡ false → bytes_eq name (codes "asm") ≡ false → Splits (name ∷ words)
-  at_disasm true is a b = as_text (codes "disasm") is
-      (splits_named (codes "disasm") disasm_sub words disasm_in (one disasm) (record { met = refl; found = refl; label = refl; no_help = refl }) plain (λ rows. refl) refl
-      (disasm_meets words))
-  at_disasm false is a b = at_program (bytes_eq name (codes "program")) refl a b is
-
-  at_asm : (t : Bool) → bytes_eq name (codes "asm") ≡ t → bytes_eq name (codes "exec") ≡ false → Splits (name ∷ words)
-  at_asm true is a = as_text (codes "asm") is
-      (splits_named (codes "asm") asm_sub words asm_in (one asm) (record { met = refl; found = refl; label = refl; no_help = refl }) plain (λ rows. refl) refl (asm_meets words))
-  at_asm false is a = at_disasm (bytes_eq name (codes "disasm")) refl a is
-
-  at_exec : (t : Bool) → bytes_eq name (codes "exec") ≡ t → Splits (name ∷ words)
-  at_exec true is = as_text (codes "exec") is
-      (splits_named (codes "exec") exec_sub words exec_in (three exec) (record { met = refl; found = refl; label = refl; no_help = refl }) plain (λ rows. refl) refl (exec_meets words))
-  at_exec false is = at_asm (bytes_eq name (codes "asm")) refl is
+  at_name : is_plain name ≡ true → (o : Option Usage) → usage_of name ≡ o → Splits (name ∷ words)
+  at_name plain_name (Some u) is = at_row u is
+  at_name plain_name None is = at_none plain_name is
 
 splits : (words : List Text) → list_all is_plain words ≡ true → Splits words
 splits [] plain = inr (no_words_fault, refl)
 splits (name ∷ words) plain =
     let each = both (is_plain name) (list_all is_plain words) plain in
-    at_exec name words each.0 each.1 (bytes_eq name (codes "exec")) refl
+    at_name name words each.1 each.0 (usage_of name) refl
 
 -- ---- the three ends of a call
 

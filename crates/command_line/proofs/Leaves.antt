@@ -1,96 +1,73 @@
--- What clap says of each command's further words, where they are plain.
-use Rattle.std.proofs.Common.{◌≡◌, ◌⊎◌, List, [], ◌∷◌, Option, None, codes, refl, inl, inr}
-use Rattle.clap.specs.Walk.{Row, Text}
+-- What clap says of a command's further words, where they are plain, by how many it wants.
+use Rattle.std.proofs.Common.{◌≡◌, ◌<◌, ◌⊎◌, ℕ, zero, suc, List, [], ◌∷◌, Option, Some, None, length, take, refl, inl, inr, arith}
+use Rattle.std.proofs.lemmas.Bool.{ne_eqb}
+use Rattle.clap.specs.Walk.{Text}
 use Rattle.clap.specs.Simple.{Shape, built_leaf, inherited}
 use Rattle.clap.specs.Kinds.{Kinds}
 use Rattle.clap.specs.declared.error.kind.ErrorKind.{ErrorKind}
 use Rattle.clap.proofs.OnLiterals.{clap_on_literals}
-use Rattle.command_line.specs.Lines.{Line, exec, asm, disasm, program_for, filter, make, live, one, two, three, four}
-use Rattle.command_line.specs.Parses.{leaf, top, exec_in, asm_in, disasm_in, program_in, filter_in, make_in, live_in}
+use Rattle.command_line.specs.Lines.{Line, line_of}
+use Rattle.command_line.specs.Parses.{leaf, line_in, places, top}
 use Rattle.command_line.proofs.PlainWalk.{plain_level, plain_rows}
 
 -- a command below the top one, built
-abbrev pub sub : Text → List Text → Shape
-sub name ids = built_leaf (inherited top.top (leaf name ids).top)
+abbrev pub sub : Text → ℕ → Shape
+sub name n = built_leaf (inherited top.top (leaf name (take n places)))
 
 -- there is no fault and the words are found as they are, or there is a fault and the words aren't split
 abbrev pub Agrees : Kinds → Option Line → Option Line → Type 0
 Agrees faults found line = ((faults ≡ []) × (found ≡ line)) ⊎ ((faults ≡ [] → ⊥) × (line ≡ None))
 
-abbrev pub Meets : Shape → (List Row → Option Line) → (List Text → Option Line) → List Text → Type 0
-Meets s found line words = Agrees (plain_level s words) (found (plain_rows s words)) (line words)
+-- clap and the definition agree on the words after the name of a command that n words follow
+abbrev pub Meets : Text → ℕ → List Text → Type 0
+Meets name n words = Agrees (plain_level (sub name n) words) (line_in (Some (name, plain_rows (sub name n) words))) (line_of name n words)
+
+other_number : (name : Text) (n : ℕ) (words : List Text) → (length words ≡ n → ⊥) → line_of name n words ≡ None
+other_number name n words differ = rw (ne_eqb (length words) n differ) refl
 
 is_fault : (k : ErrorKind) (ks : Kinds) → (k ∷ ks ≡ [] → ⊥)
 is_fault k ks e = cc
 
-abbrev pub exec_sub : Shape
-exec_sub = sub (codes "exec") (codes "program" ∷ codes "capture" ∷ codes "age" ∷ [])
+module _ (name : Text) where
+  none_meet : (words : List Text) → Meets name 0 words
+  unfolding clap_on_literals
+  none_meet [] = inl (refl, refl)
+  none_meet (a ∷ rest) = inr (is_fault _ _, other_number name 0 (a ∷ rest) (λ e. omega arith))
 
-pub exec_meets : (words : List Text) → Meets exec_sub exec_in (three exec) words
-unfolding clap_on_literals
-exec_meets [] = inr (is_fault _ _, refl)
-exec_meets (a ∷ []) = inr (is_fault _ _, refl)
-exec_meets (a ∷ b ∷ []) = inr (is_fault _ _, refl)
-exec_meets (a ∷ b ∷ c ∷ []) = inl (refl, refl)
-exec_meets (a ∷ b ∷ c ∷ d ∷ rest) = inr (is_fault _ _, refl)
+  one_meets : (words : List Text) → Meets name 1 words
+  unfolding clap_on_literals
+  one_meets [] = inr (is_fault _ _, refl)
+  one_meets (a ∷ []) = inl (refl, refl)
+  one_meets (a ∷ b ∷ rest) = inr (is_fault _ _, other_number name 1 (a ∷ b ∷ rest) (λ e. omega arith))
 
-abbrev pub asm_sub : Shape
-asm_sub = sub (codes "asm") (codes "text" ∷ [])
+  two_meet : (words : List Text) → Meets name 2 words
+  unfolding clap_on_literals
+  two_meet [] = inr (is_fault _ _, refl)
+  two_meet (a ∷ []) = inr (is_fault _ _, refl)
+  two_meet (a ∷ b ∷ []) = inl (refl, refl)
+  two_meet (a ∷ b ∷ c ∷ rest) = inr (is_fault _ _, other_number name 2 (a ∷ b ∷ c ∷ rest) (λ e. omega arith))
 
-pub asm_meets : (words : List Text) → Meets asm_sub asm_in (one asm) words
-unfolding clap_on_literals
-asm_meets [] = inr (is_fault _ _, refl)
-asm_meets (a ∷ []) = inl (refl, refl)
-asm_meets (a ∷ b ∷ rest) = inr (is_fault _ _, refl)
+  three_meet : (words : List Text) → Meets name 3 words
+  unfolding clap_on_literals
+  three_meet [] = inr (is_fault _ _, refl)
+  three_meet (a ∷ []) = inr (is_fault _ _, refl)
+  three_meet (a ∷ b ∷ []) = inr (is_fault _ _, refl)
+  three_meet (a ∷ b ∷ c ∷ []) = inl (refl, refl)
+  three_meet (a ∷ b ∷ c ∷ d ∷ rest) = inr (is_fault _ _, other_number name 3 (a ∷ b ∷ c ∷ d ∷ rest) (λ e. omega arith))
 
-abbrev pub disasm_sub : Shape
-disasm_sub = sub (codes "disasm") (codes "program" ∷ [])
+  four_meet : (words : List Text) → Meets name 4 words
+  unfolding clap_on_literals
+  four_meet [] = inr (is_fault _ _, refl)
+  four_meet (a ∷ []) = inr (is_fault _ _, refl)
+  four_meet (a ∷ b ∷ []) = inr (is_fault _ _, refl)
+  four_meet (a ∷ b ∷ c ∷ []) = inr (is_fault _ _, refl)
+  four_meet (a ∷ b ∷ c ∷ d ∷ []) = inl (refl, refl)
+  four_meet (a ∷ b ∷ c ∷ d ∷ e ∷ rest) = inr (is_fault _ _, other_number name 4 (a ∷ b ∷ c ∷ d ∷ e ∷ rest) (λ e. omega arith))
 
-pub disasm_meets : (words : List Text) → Meets disasm_sub disasm_in (one disasm) words
-unfolding clap_on_literals
-disasm_meets [] = inr (is_fault _ _, refl)
-disasm_meets (a ∷ []) = inl (refl, refl)
-disasm_meets (a ∷ b ∷ rest) = inr (is_fault _ _, refl)
-
-abbrev pub program_sub : Shape
-program_sub = sub (codes "program") (codes "mac" ∷ codes "capacity" ∷ codes "address" ∷ codes "flags" ∷ [])
-
-pub program_meets : (words : List Text) → Meets program_sub program_in (four program_for) words
-unfolding clap_on_literals
-program_meets [] = inr (is_fault _ _, refl)
-program_meets (a ∷ []) = inr (is_fault _ _, refl)
-program_meets (a ∷ b ∷ []) = inr (is_fault _ _, refl)
-program_meets (a ∷ b ∷ c ∷ []) = inr (is_fault _ _, refl)
-program_meets (a ∷ b ∷ c ∷ d ∷ []) = inl (refl, refl)
-program_meets (a ∷ b ∷ c ∷ d ∷ e ∷ rest) = inr (is_fault _ _, refl)
-
-abbrev pub filter_sub : Shape
-filter_sub = sub (codes "filter") (codes "script" ∷ codes "capture" ∷ [])
-
-pub filter_meets : (words : List Text) → Meets filter_sub filter_in (two filter) words
-unfolding clap_on_literals
-filter_meets [] = inr (is_fault _ _, refl)
-filter_meets (a ∷ []) = inr (is_fault _ _, refl)
-filter_meets (a ∷ b ∷ []) = inl (refl, refl)
-filter_meets (a ∷ b ∷ c ∷ rest) = inr (is_fault _ _, refl)
-
-abbrev pub make_sub : Shape
-make_sub = sub (codes "make") (codes "what" ∷ codes "n" ∷ [])
-
-pub make_meets : (words : List Text) → Meets make_sub make_in (two make) words
-unfolding clap_on_literals
-make_meets [] = inr (is_fault _ _, refl)
-make_meets (a ∷ []) = inr (is_fault _ _, refl)
-make_meets (a ∷ b ∷ []) = inl (refl, refl)
-make_meets (a ∷ b ∷ c ∷ rest) = inr (is_fault _ _, refl)
-
-abbrev pub live_sub : Shape
-live_sub = sub (codes "live") (codes "script" ∷ codes "capture" ∷ codes "lanes" ∷ [])
-
-pub live_meets : (words : List Text) → Meets live_sub live_in (three live) words
-unfolding clap_on_literals
-live_meets [] = inr (is_fault _ _, refl)
-live_meets (a ∷ []) = inr (is_fault _ _, refl)
-live_meets (a ∷ b ∷ []) = inr (is_fault _ _, refl)
-live_meets (a ∷ b ∷ c ∷ []) = inl (refl, refl)
-live_meets (a ∷ b ∷ c ∷ d ∷ rest) = inr (is_fault _ _, refl)
+  pub meets : (n : ℕ) (words : List Text) → n < 5 → Meets name n words
+  meets zero words few = none_meet words
+  meets (suc zero) words few = one_meets words
+  meets (suc (suc zero)) words few = two_meet words
+  meets (suc (suc (suc zero))) words few = three_meet words
+  meets (suc (suc (suc (suc zero)))) words few = four_meet words
+  meets (suc (suc (suc (suc (suc n))))) words few = absurd (omega arith)

@@ -2,3 +2,5 @@ mod Agreement
 mod Leaves
 mod Named
 mod PlainWalk
+mod Rules
+mod Table

@@ -1,3 +1,4 @@
+pub mod Commands
 pub mod Lines
 pub mod Parses
 pub mod Shown

@@ -1,5 +1,5 @@
 -- The words of a command line: the command's name, and the words that follow it.
-use Rattle.std.specs.Prelude.{ℕ, Bool, false, not, ◌==◌, List, [], ◌∷◌, map, codes, String, string_bytes, Option, None, Some, if◌then◌else◌}
+use Rattle.std.specs.Prelude.{ℕ, Bool, false, not, ◌==◌, List, [], ◌∷◌, find, length, map, codes, String, string_bytes, Option, None, Some, option_and_then, option_map, if◌then◌else◌}
 use Rattle.std.specs.List.{list_all}
 use Rattle.std.specs.Str.{bytes_eq}
 use Rattle.std.specs.declared.alloc.Global.{Global}
@@ -8,47 +8,59 @@ use Rattle.std.specs.declared.alloc.Global.{Global}
 abbrev pub texts : List (String Global) → List (List ℕ)
 texts words = map string_bytes words
 
--- a command and its further words
-pub data Line : Type 0 where
-  exec : (program capture age : List ℕ) → Line
-  asm : (text : List ℕ) → Line
-  disasm : (program : List ℕ) → Line
-  program_for : (mac capacity address flags : List ℕ) → Line
-  filter : (script capture : List ℕ) → Line
-  make : (what n : List ℕ) → Line
-  live : (script capture lanes : List ℕ) → Line
+-- the words that follow a command's name
+pub data Further : Type 0 where
+  one : (a : List ℕ) → Further
+  two : (a b : List ℕ) → Further
+  three : (a b c : List ℕ) → Further
+  four : (a b c d : List ℕ) → Further
 
--- a command of one further word
-abbrev pub one : (List ℕ → Line) → List (List ℕ) → Option Line
-one line (a ∷ []) = Some (line a)
-one line words = None
+-- a command's name and the words that follow it
+pub record Line : Type 0 where
+  pub name : List ℕ
+  pub further : Further
 
--- a command of two further words
-abbrev pub two : (List ℕ → List ℕ → Line) → List (List ℕ) → Option Line
-two line (a ∷ b ∷ []) = Some (line a b)
-two line words = None
+-- ---- the commands
 
--- a command of three further words
-abbrev pub three : (List ℕ → List ℕ → List ℕ → Line) → List (List ℕ) → Option Line
-three line (a ∷ b ∷ c ∷ []) = Some (line a b c)
-three line words = None
+-- a command's name, and how many words follow it
+pub record Usage : Type 0 where
+  pub name : List ℕ
+  pub words : ℕ
 
--- a command of four further words
-abbrev pub four : (List ℕ → List ℕ → List ℕ → List ℕ → Line) → List (List ℕ) → Option Line
-four line (a ∷ b ∷ c ∷ d ∷ []) = Some (line a b c d)
-four line words = None
+abbrev pub usage : List ℕ → ℕ → Usage
+usage name words = record { name = name; words = words }
 
--- the command of this name, where the number of further words is right
-abbrev pub line_of : List ℕ → List (List ℕ) → Option Line
-line_of name words =
-    if bytes_eq name (codes "exec") then three exec words
-    else if bytes_eq name (codes "asm") then one asm words
-    else if bytes_eq name (codes "disasm") then one disasm words
-    else if bytes_eq name (codes "program") then four program_for words
-    else if bytes_eq name (codes "filter") then two filter words
-    else if bytes_eq name (codes "make") then two make words
-    else if bytes_eq name (codes "live") then three live words
-    else None
+abbrev pub usages : List Usage
+usages =
+    usage (codes "exec") 3
+    ∷ usage (codes "asm") 1
+    ∷ usage (codes "disasm") 1
+    ∷ usage (codes "program") 4
+    ∷ usage (codes "filter") 2
+    ∷ usage (codes "make") 2
+    ∷ usage (codes "live") 3
+    ∷ []
+
+-- the command of this name
+abbrev pub usage_of : List ℕ → Option Usage
+usage_of name = find (λ u. bytes_eq u.name name) usages
+
+-- ---- the split
+
+-- the words, where there are one to four
+abbrev pub further_of : List (List ℕ) → Option Further
+further_of (a ∷ []) = Some (one a)
+further_of (a ∷ b ∷ []) = Some (two a b)
+further_of (a ∷ b ∷ c ∷ []) = Some (three a b c)
+further_of (a ∷ b ∷ c ∷ d ∷ []) = Some (four a b c d)
+further_of words = None
+
+abbrev pub named : List ℕ → Further → Line
+named name further = record { name = name; further = further }
+
+-- the name and the words, where there are n of them
+abbrev pub line_of : List ℕ → ℕ → List (List ℕ) → Option Line
+line_of name n words = if length words == n then option_map (named name) (further_of words) else None
 
 -- the word isn't empty and doesn't begin with a dash
 abbrev pub is_plain : List ℕ → Bool
@@ -58,4 +70,4 @@ is_plain (first ∷ rest) = not (first == 45)
 -- the command that the words name, where no further word is empty or begins with a dash
 abbrev pub split_of : List (List ℕ) → Option Line
 split_of [] = None
-split_of (name ∷ words) = if list_all is_plain words then line_of name words else None
+split_of (name ∷ words) = if list_all is_plain words then option_and_then (λ u. line_of name u.words words) (usage_of name) else None

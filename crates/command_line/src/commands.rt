@@ -1,13 +1,34 @@
 //! The commands, as the parser of command lines is told them.
 
-ghost use Rattle.std.specs.Prelude.{◌≡◌, IfOk, false};
+ghost use Rattle.std.specs.Prelude.{◌≡◌, IfOk, false, fold, map, take};
 ghost use Rattle.clap.specs.Words.{app_of, rule_of};
-ghost use Rattle.clap.specs.declared.builder.command.Command.TheViews.{out-Command as fields_of};
 ghost use Rattle.clap.specs.Walk.{texts};
-ghost use Rattle.command_line.specs.Parses.{positional, leaf, top, commands};
+ghost use Rattle.clap.specs.declared.builder.command.Command.TheViews.{out-Command as fields_of};
+ghost use Rattle.command_line.specs.Commands.{leaf_app, usage_of};
+ghost use Rattle.command_line.specs.Parses.{positional, places, top, with_usage, commands};
 
+use crate::values::PLACES;
 use clap::{Arg, Command};
 use std::alloc::{AllocError, Global};
+
+/// A command's name, and how many words follow it.
+#[derive(Clone, Copy)]
+struct Usage<'a> {
+    name: &'a str,
+    words: usize,
+}
+
+/// The commands.
+#[rattlefmt::skip]
+const USAGES: &[Usage<'static>] = &[
+    Usage { name: "exec", words: 3 },
+    Usage { name: "asm", words: 1 },
+    Usage { name: "disasm", words: 1 },
+    Usage { name: "program", words: 4 },
+    Usage { name: "filter", words: 2 },
+    Usage { name: "make", words: 2 },
+    Usage { name: "live", words: 3 },
+];
 
 /// A word that has to stand in its place.
 fn positional<'a>(alloc: Global, id: &'a str) -> Arg<'a>
@@ -17,9 +38,16 @@ fn positional<'a>(alloc: Global, id: &'a str) -> Arg<'a>
     Arg::new(alloc, id).required(true)
 }
 
+/// The names of so many words, of all of them at most.
+fn places(words: usize) -> &'static [&'static str]
+    ensures { texts result.now ≡ take words places }
+{
+    PLACES.split_at(words.min(PLACES.len())).0
+}
+
 /// A command of these positional arguments.
 fn leaf<'a>(alloc: Global, name: &'a str, ids: &[&'a str]) -> Result<Command<'a>, AllocError>
-    ensures app { IfOk result (λ c. app_of c ≡ leaf name.entry.now (texts ids.now)) }
+    ensures app { IfOk result (λ c. app_of c ≡ leaf_app name.entry.now (texts ids.now)) }
     ensures local { IfOk result (λ c. (fields_of c).has_globals ≡ false) }
 {
     let mut command = Command::new(alloc, name);
@@ -41,16 +69,32 @@ fn top<'a>(alloc: Global) -> Command<'a>
         .subcommand_required(true)
 }
 
-/// The seven commands, each with its further words.
+/// One more command.
+fn with_usage<'a>(
+    alloc: Global,
+    command: Command<'a>,
+    usage: &Usage<'a>,
+) -> Result<Command<'a>, AllocError>
+    ensures { IfOk result (λ c. app_of c ≡ with_usage (app_of command.entry) (usage_of usage.now)) }
+{
+    let below = leaf(alloc, usage.name, places(usage.words))?;
+    command.subcommand(below)
+}
+
+/// The top command with these below it.
+fn with_usages<'a>(alloc: Global, usages: &[Usage<'a>]) -> Result<Command<'a>, AllocError>
+    ensures { IfOk result (λ c. app_of c ≡ fold with_usage top (map usage_of usages.now)) }
+{
+    let mut command = top(alloc);
+    for usage in usages {
+        command = with_usage(alloc, command, usage)?;
+    }
+    Ok(command)
+}
+
+/// The commands of the table.
 pub(crate) fn commands<'a>(alloc: Global) -> Result<Command<'a>, AllocError>
     ensures { IfOk result (λ c. app_of c ≡ commands) }
 {
-    top(alloc)
-        .subcommand(leaf(alloc, "exec", &["program", "capture", "age"])?)?
-        .subcommand(leaf(alloc, "asm", &["text"])?)?
-        .subcommand(leaf(alloc, "disasm", &["program"])?)?
-        .subcommand(leaf(alloc, "program", &["mac", "capacity", "address", "flags"])?)?
-        .subcommand(leaf(alloc, "filter", &["script", "capture"])?)?
-        .subcommand(leaf(alloc, "make", &["what", "n"])?)?
-        .subcommand(leaf(alloc, "live", &["script", "capture", "lanes"])?)
+    with_usages(alloc, USAGES)
 }

@@ -13,4 +13,4 @@ mod values;
 
 pub use sharing::types_are_shared;
 pub use splitting::split;
-pub use values::Split;
+pub use values::{Further, Split};

@@ -1,41 +1,43 @@
 //! Words of each command, and words that are refused.
 
-use crate::{Split, split};
+use crate::{Further, Split, split};
 use std::alloc::Global;
 use std::process::Abort;
 use std::test::Fail;
 
-const EXEC: Split = Split::Exec {
-    program: "p",
-    capture: "c",
-    age: "0",
+const EXEC: Split = Split {
+    name: "exec",
+    further: Further::Three("p", "c", "0"),
 };
 
-const ASM: Split = Split::Asm { text: "t" };
-
-const DISASM: Split = Split::Disasm { program: "p" };
-
-const PROGRAM: Split = Split::Program {
-    mac: "02:00:00:00:00:01",
-    capacity: "1024",
-    address: "none",
-    flags: "8dm",
+const ASM: Split = Split {
+    name: "asm",
+    further: Further::One("t"),
 };
 
-const FILTER: Split = Split::Filter {
-    script: "s",
-    capture: "c",
+const DISASM: Split = Split {
+    name: "disasm",
+    further: Further::One("p"),
 };
 
-const MAKE: Split = Split::Make {
-    what: "summary",
-    n: "30",
+const PROGRAM: Split = Split {
+    name: "program",
+    further: Further::Four("02:00:00:00:00:01", "1024", "none", "8dm"),
 };
 
-const LIVE: Split = Split::Live {
-    script: "s",
-    capture: "c",
-    lanes: "4",
+const FILTER: Split = Split {
+    name: "filter",
+    further: Further::Two("s", "c"),
+};
+
+const MAKE: Split = Split {
+    name: "make",
+    further: Further::Two("summary", "30"),
+};
+
+const LIVE: Split = Split {
+    name: "live",
+    further: Further::Three("s", "c", "4"),
 };
 
 #[rattlefmt::skip]
@@ -62,10 +64,10 @@ const ROWS: [(&[&str], Option<Split<'static>>); 45] = [
     (&["live", "s", "c"], None),
     (&["live", "s", "c", "4", "4"], None),
     // further words are any text, also a command's name or letters beyond ASCII
-    (&["asm", "help"], Some(Split::Asm { text: "help" })),
-    (&["asm", "exec"], Some(Split::Asm { text: "exec" })),
-    (&["make", "a-b", "=x"], Some(Split::Make { what: "a-b", n: "=x" })),
-    (&["asm", "\u{e9} \u{1f600}"], Some(Split::Asm { text: "\u{e9} \u{1f600}" })),
+    (&["asm", "help"], Some(Split { name: "asm", further: Further::One("help") })),
+    (&["asm", "exec"], Some(Split { name: "asm", further: Further::One("exec") })),
+    (&["make", "a-b", "=x"], Some(Split { name: "make", further: Further::Two("a-b", "=x") })),
+    (&["asm", "\u{e9} \u{1f600}"], Some(Split { name: "asm", further: Further::One("\u{e9} \u{1f600}") })),
     // empty words, and words that begin with a dash
     (&["asm", ""], None),
     (&["exec", "p", "", "0"], None),
