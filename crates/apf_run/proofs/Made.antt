@@ -1,9 +1,10 @@
 -- The made script and the made capture, as the filter takes them.
-use Rattle.std.proofs.Common.{◌≡◌, ◌≤◌, ◌<◌, ◌++◌, ℕ, List, [], length, map, fold, Option, None, Some, Result, Ok, Err, IfOk, refl, sym, ap, subst, ◌∙◌, arith, inl, inr}
+use Rattle.std.proofs.Common.{◌≡◌, ◌≤◌, ◌<◌, ◌++◌, ℕ, List, [], length, map, fold, Option, None, Some, Result, Ok, Err, IfOk, refl, sym, ap, subst, ◌∙◌, arith, append-nil}
 use Rattle.std.specs.List.{concat}
 use Rattle.std.specs.Io.KnownBytes.{Keeps}
 use Rattle.std.proofs.lemmas.List.{length-map}
 use Rattle.std.proofs.lemmas.List.FromFn.{length-map-range_with_len}
+use Rattle.apf_base.specs.Causes.{Rose}
 use Rattle.apf_base.specs.Streams.{AppendsFront, AppendsAll}
 use Rattle.pcap_files.specs.Capture.{capture, frame_of}
 use Rattle.pcap_files.specs.declared.kinds.Placed.{Placed}
@@ -28,9 +29,15 @@ use Rattle.made_input.specs.MadeCaptures.{made_capture, made_stamp}
 use Rattle.made_input.specs.MadeScripts.{made_script, made_contents}
 use Rattle.made_input.proofs.Said.{said, script_short}
 use Rattle.made_input.proofs.Whole.{whole}
-use Rattle.apf_run.specs.Ends.{Meets}
-use Rattle.apf_run.specs.FilterEnds.{fault_of}
-use Rattle.apf_run.specs.MadeText.{IsMade, IsSummary, HasBegunMade, HasEndedMade, summary_lines}
+use Rattle.filter_report.specs.Faults.{fault_of}
+use Rattle.command_plan.specs.declared.fault.Fault.{Fault}
+use Rattle.command_plan.specs.declared.fault.Fault.TheVariants as faults
+use Rattle.command_plan.specs.Follows.{Stage, Later, Follows}
+use Rattle.command_plan.specs.Plan.{says}
+use Rattle.command_plan.proofs.Following.{lacks, then_pick}
+use Rattle.command_plan.proofs.Saying.{all_said}
+use Rattle.command_plan.proofs.Texts.{front_said}
+use Rattle.apf_run.specs.Make.{IsSummary, HasBegunMade, HasEndedMade, makes, summary_lines}
 use Rattle.apf_run.specs.declared.setting.What.TheVariants.{Summary}
 
 -- ---- the script
@@ -105,23 +112,24 @@ ended_made n bytes records f g h is found b take rest =
 
 -- ---- the lines
 
-module _ (n : ℕ) (f : Reporting) (old new : Option (List ℕ)) (is : HasEndedMade n f) where
+module _ (n : ℕ) (f : Reporting) (a b : Stage) (later : Later a b) (is : HasEndedMade n f) where
   abbrev Lines : List (List ℕ)
   Lines = let bytes = made_capture n in summary_lines is.0 (arrivals_of bytes (capture bytes).list)
 
   are : IsSummary n Lines
   are = (is.0, is.1, refl)
 
-  pub totals_done : ((c : Course) (frames lines : List (List ℕ)) → InCourse c f frames lines → AppendsAll old new (entry_lines [] [] (totals c.told)))
-      → Meets (Some (Ok tt)) (IsMade Summary n) old new (Ok tt)
-  unfolding Meets
-  totals_done done = inl (refl, Lines, are, done _ is.2.0 is.2.1 is.2.2)
+  pub totals_done : b.shelf.left ≡ a.shelf.left
+      → ((c : Course) (frames lines : List (List ℕ)) → InCourse c f frames lines → AppendsAll a.out.held b.out.held (entry_lines [] [] (totals c.told)))
+      → Follows (makes Summary n) a b (Ok tt)
+  totals_done left done = then_pick (IsSummary n) says Lines a b (Ok tt) are (all_said Lines a b later left (done _ is.2.0 is.2.1 is.2.2))
 
   pub totals_fail : (result : Result (Unit {0}) ReportFault) (fault : ReportFault) → result ≡ Err fault
-      → ((c : Course) (frames lines : List (List ℕ)) → InCourse c f frames lines → result ≡ Err reports.Write → AppendsFront old new (concat (entry_lines [] [] (totals c.told))))
-      → ((result ≡ Err reports.Write → ⊥) → Keeps old new) → ((need limit : ℕ) → result ≡ Err (reports.TooLarge need limit) → ⊥)
-      → Meets (Some (Ok tt)) (IsMade Summary n) old new (Err (fault_of fault))
-  unfolding Meets
-  totals_fail result (reports.TooLarge need limit) e front keeps none = absurd (none need limit e)
-  totals_fail result reports.OutOfMemory e front keeps none = inr (tt, inl (keeps (λ w. absurd cc)))
-  totals_fail result reports.Write e front keeps none = inr (omega arith, inr (Lines, are, front _ is.2.0 is.2.1 is.2.2 e))
+      → ((c : Course) (frames lines : List (List ℕ)) → InCourse c f frames lines → result ≡ Err reports.Write → AppendsFront a.out.held b.out.held (concat (entry_lines [] [] (totals c.told))))
+      → ((result ≡ Err reports.Write → ⊥) → Keeps a.out.held b.out.held) → ((need limit : ℕ) → result ≡ Err (reports.TooLarge need limit) → ⊥)
+      → (result ≡ Err reports.Write → Rose a.out.faults b.out.faults) → Follows (makes Summary n) a b (Err (fault_of fault))
+  totals_fail result (reports.TooLarge need limit) e front keeps none rose = absurd (none need limit e)
+  totals_fail result reports.OutOfMemory e front keeps none rose = lacks (makes Summary n) a b (Err faults.OutOfMemory) refl (record { later = later; held = keeps (λ w. absurd cc) })
+  totals_fail result reports.Write e front keeps none rose =
+      then_pick (IsSummary n) says Lines a b (Err faults.Write) are
+      (subst (λ (l : List (List ℕ)). Follows (says l) a b (Err faults.Write)) (append-nil Lines) (front_said a b later Lines [] (rose e) (front _ is.2.0 is.2.1 is.2.2 e)))

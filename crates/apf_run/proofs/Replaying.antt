@@ -19,12 +19,8 @@ use Rattle.filter_core.specs.Installs.{Installed}
 use Rattle.filter_core.specs.Replay.{Arrival, Entry, begun, course, installs_of, replay, story}
 use Rattle.filter_report.proofs.Leading.{leads_grown, leads_told, leads_story, leads_report}
 use Rattle.filter_report.specs.Arrivals.{arrival_of, arrivals_of, frames_of}
-use Rattle.filter_report.specs.Report.{AllHaveCodes, Leads}
-use Rattle.apf_run.specs.CaptureEnds.{faultless}
-use Rattle.apf_run.specs.Ends.{end_place}
-use Rattle.apf_run.specs.FilterEnds.{IsReplayed, are_bytes, replay_end}
-use Rattle.apf_run.specs.declared.fault.Input.TheVariants.{Replayed}
-use Rattle.apf_run.specs.declared.fault.Fault.TheVariants.{TooLong}
+use Rattle.filter_report.specs.Report.{AllHaveCodes, Leads, Tells}
+use Rattle.apf_run.specs.Filter.{TellsAll}
 
 -- ---- codes
 
@@ -44,17 +40,6 @@ codes_front (i ∷ is) js have = (have.0, codes_front is js have.1)
 codes_before : (told all : List Entry) → Grows HasRoom told all → AllHaveCodes (installs_of all) → AllHaveCodes (installs_of told)
 codes_before told all g have =
     codes_front (installs_of told) (installs_of g.more) (subst AllHaveCodes (ap installs_of g.is ∙ installs-append told g.more) have)
-
--- ---- bytes
-
-pub bytes_are : (bytes : List ℕ) → are_bytes bytes ≡ true → AreBytes bytes
-bytes_are [] e k = omega arith
-bytes_are (b ∷ bytes) e k = by_test (ltb b 256) (are_bytes bytes) refl e (bytes_are bytes) k
-  where
-    by_test : (t u : Bool) → ltb b 256 ≡ t → (t && u) ≡ true → (u ≡ true → AreBytes bytes) → (k : ℕ) → slice_index (b ∷ bytes) k < 256
-    by_test false u small e rest k = absurd cc
-    by_test true u small e rest zero = ltb-true b 256 small
-    by_test true u small e rest (suc k) = rest e k
 
 abbrev HasBytes : Arrival → Type 0
 HasBytes arrival = AreBytes arrival.frame
@@ -94,7 +79,7 @@ module _ (script : Script) (sound : IsScript script) (fits : base script.config 
 
   -- of a capture: behind its whole records
   pub story_lines : (bytes : List ℕ) → AreBytes bytes → (end : Option PcapError) (lines : List (List ℕ)) → (let arrivals = arrivals_of bytes (capture bytes).list in
-      Leads (story script arrivals) (frames_of arrivals) lines → (rest : List (List ℕ)) × IsReplayed script (Some bytes) (faultless end) (lines ++ rest))
+      Leads (story script arrivals) (frames_of arrivals) lines → (rest : List (List ℕ)) × TellsAll end script arrivals (lines ++ rest))
   story_lines bytes h None lines lead =
       let arrivals = arrivals_of bytes (capture bytes).list in
       leads_report script arrivals lines (replay_codes arrivals (arrivals_have_bytes bytes (capture bytes).list h))
@@ -105,46 +90,15 @@ module _ (script : Script) (sound : IsScript script) (fits : base script.config 
 
   -- behind the first install
   pub begun_lines : (bytes : List ℕ) → AreBytes bytes → (end : Option PcapError) (lines : List (List ℕ)) → Leads Told [] lines
-      → (rest : List (List ℕ)) × IsReplayed script (Some bytes) (faultless end) (lines ++ rest)
+      → (rest : List (List ℕ)) × TellsAll end script (arrivals_of bytes (capture bytes).list) (lines ++ rest)
   begun_lines bytes h end lines lead =
       let arrivals = arrivals_of bytes (capture bytes).list in
       story_lines bytes h end lines (leads_grown Told (story script arrivals) [] (frames_of arrivals) lines (begun_grows arrivals) lead)
 
-  -- of a capture that is too long
-  first_lines : (bytes : List ℕ) (lines : List (List ℕ)) → Leads Told [] lines → (rest : List (List ℕ)) × IsReplayed script (Some bytes) (Err (TooLong Replayed)) (lines ++ rest)
+  -- the first install alone
+  pub first_lines : (lines : List (List ℕ)) → Leads Told [] lines → (rest : List (List ℕ)) × Tells Told [] (lines ++ rest)
   unfolding course
-  first_lines bytes lines lead = leads_story script [] lines (story_codes [] (All-nil HasBytes)) lead
-
-  -- whatever the capture is
-  pub replay_lines : (capture : Option (List ℕ)) (lines : List (List ℕ)) → Leads Told [] lines
-      → IfSome (replay_end capture) (λ end. (rest : List (List ℕ)) × IsReplayed script capture end (lines ++ rest))
-  replay_lines None lines lead = tt
-  replay_lines (Some bytes) lines lead = by_bytes (are_bytes bytes) refl
-    where
-      by_length : (t : Bool) → AreBytes bytes → IfSome (cond t (Some (Err (TooLong Replayed))) (Some (faultless (capture bytes).end))) (λ end. (rest : List (List ℕ)) × IsReplayed script (Some bytes) end (lines ++ rest))
-      by_length true h = first_lines bytes lines lead
-      by_length false h = begun_lines bytes h (capture bytes).end lines lead
-
-      by_bytes : (t : Bool) → are_bytes bytes ≡ t
-          → IfSome (cond t (cond (ltb 67108864 (length bytes)) (Some (Err (TooLong Replayed))) (Some (faultless (capture bytes).end))) None) (λ end. (rest : List (List ℕ)) × IsReplayed script (Some bytes) end (lines ++ rest))
-      by_bytes false e = tt
-      by_bytes true e = by_length (ltb 67108864 (length bytes)) (bytes_are bytes e)
-
--- ---- faults of the capture's file
-
-pub late_end : (end : Option PcapError) → 11 < end_place (faultless end)
-late_end None = omega arith
-late_end (Some fault) = omega arith
-
--- the end of a replay comes late
-pub replay_late : (capture : Option (List ℕ)) → IfSome (replay_end capture) (λ end. 10 < end_place end)
-replay_late None = tt
-replay_late (Some bytes) = by_tests (are_bytes bytes) (ltb 67108864 (length bytes))
-  where
-    by_tests : (t u : Bool) → IfSome (cond t (cond u (Some (Err (TooLong Replayed))) (Some (faultless (capture bytes).end))) None) (λ end. 10 < end_place end)
-    by_tests false u = tt
-    by_tests true true = omega arith
-    by_tests true false = omega (arith, late_end (capture bytes).end)
+  first_lines lines lead = leads_story script [] lines (story_codes [] (All-nil HasBytes)) lead
 
 -- ---- few records
 

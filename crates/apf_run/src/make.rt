@@ -1,26 +1,24 @@
 //! `make`: input that is made by a rule, and what the filter does with it.
+#![tactic(auto, using(command_plan::proofs::Rules::following, command_plan::proofs::Rules::meaning))]
 
-ghost use Rattle.std.specs.Prelude.{◌≡◌, ◌≢◌, ◌≤◌, ◌<◌, ◌^◌, ◌⊎◌, ◌∷◌, [], ℕ, List as Items, length, IfOk, IfErr, OnOk, OnErr, Ok, Err, Some, None};
-ghost use Rattle.std.specs.Io.KnownBytes.{Keeps};
-ghost use Rattle.apf_base.specs.Causes.{Rose};
-ghost use Rattle.apf_base.specs.Streams.{AppendsFront, AppendsAll};
-ghost use Rattle.std.specs.List.{concat};
-ghost use Rattle.filter_core.specs.Replay.{course, finished};
-ghost use Rattle.filter_report.specs.Along.{InCourse};
-ghost use Rattle.filter_report.specs.Arrivals.{arrivals_of};
-ghost use Rattle.pcap_files.specs.Capture.{capture as read_capture};
+ghost use Rattle.std.specs.Prelude.{◌≡◌, ◌≢◌, ◌≤◌, ◌<◌, ◌^◌, ◌/◌, ◌+◌, ◌-◌, ◌∷◌, [], ℕ, map, length, IfOk, Err, None};
+ghost use Rattle.std.specs.List.{range_with_len};
+ghost use Rattle.made_input.specs.MadeCaptures.{made_kind, made_record};
+ghost use Rattle.made_input.specs.MadeScripts.{doze_line, ended, made_contents, opening};
+ghost use Rattle.pcap_files.specs.Capture.{head_bytes};
 ghost use Rattle.script_text.specs.ScriptLines.{contents_of};
-ghost use Rattle.apf_run.specs.Ends.{Meets};
-ghost use Rattle.apf_run.specs.MadeText.{IsMade, HasBegunMade, HasEndedMade};
-ghost use Rattle.made_input.specs.MadeCaptures.{made_capture};
-ghost use Rattle.made_input.specs.MadeScripts.{made_contents};
+ghost use Rattle.command_plan.specs.Follows.{Shelving, Writes, stage};
+ghost use Rattle.command_plan.specs.Meaning.{Does};
+ghost use Rattle.command_plan.specs.Plan.{says};
+ghost use Rattle.apf_run.specs.Make.{HasBegunMade, HasEndedMade, make_meaning, make_plan, makes};
+ghost use Rattle.apf_run.specs.Settings.{making_of};
 
-use crate::fault::{Fault, Input};
-use crate::files::write_piece;
 use crate::setting::{MadeWords, What};
+use crate::words::made_words;
 use apf_base::{Failed, OutOfMemory, Sink};
+use command_plan::{Fault, Lines};
 use filter_report::{Filtering, ReportFault};
-use made_input::{made_capture, made_script};
+use made_input::{doze_line, made_capture, made_head, made_record, made_script, opening_lines};
 use pcap_files::records;
 use policy_state::Script;
 use script_text::{ScriptError, read_script};
@@ -83,69 +81,87 @@ fn replayed(alloc: Global, n: u32) -> Result<Filtering, ReportFault>
     Ok(filtering)
 }
 
-// Writes the made script.
-#[tactic(auto, unfolding(crate::specs::Ends::Meets))]
-fn write_script<O: Sink>(alloc: Global, n: u32, out: &mut O) -> Result<(), Fault>
-    requires { n ≤ 100000 }
-    ensures defined { Meets (Some (Ok tt)) (IsMade What.Script n) (O.held out.old) (O.held out.new) result }
-    ensures quiet { OnErr result (result ≢ Err Fault.Write → result ≢ Err Fault.OutOfMemory → Keeps (O.held out.old) (O.held out.new)) }
-    ensures accepted { result ≢ Err Fault.Usage }
-    ensures no_read { (input : Input) → result ≢ Err (Fault.Read input) }
-    ensures no_open { (input : Input) → result ≢ Err (Fault.Open input) }
-    ensures write { result ≡ Err Fault.Write → Rose (O.faults out.old) (O.faults out.new) }
-    ensures out_faults { O.faults out.old ≤ O.faults out.new }
+// Writes the lines that each made script begins with.
+fn write_opening<O: Lines>(out: &mut O) -> Result<(), Fault>
+    ensures { Writes (says (map ended opening)) (O.seen out.old) (O.seen out.new) result }
 {
-    let bytes = made_script(alloc, n)?;
-    write_piece(out, bytes.as_slice())
+    for line in opening_lines() {
+        out.say(line.as_bytes())?;
+    }
+    Ok(())
 }
 
-// Writes the made capture.
-#[tactic(auto, unfolding(crate::specs::Ends::Meets))]
-fn write_capture<O: Sink>(alloc: Global, n: u32, out: &mut O) -> Result<(), Fault>
-    requires { n ≤ 100000 }
-    ensures defined { Meets (Some (Ok tt)) (IsMade What.Capture n) (O.held out.old) (O.held out.new) result }
-    ensures quiet { OnErr result (result ≢ Err Fault.Write → result ≢ Err Fault.OutOfMemory → Keeps (O.held out.old) (O.held out.new)) }
-    ensures accepted { result ≢ Err Fault.Usage }
-    ensures no_read { (input : Input) → result ≢ Err (Fault.Read input) }
-    ensures no_open { (input : Input) → result ≢ Err (Fault.Open input) }
-    ensures write { result ≡ Err Fault.Write → Rose (O.faults out.old) (O.faults out.new) }
-    ensures out_faults { O.faults out.old ≤ O.faults out.new }
+// Writes the lines of so many changes of the doze.
+fn write_changes<O: Lines>(alloc: Global, changes: u32, out: &mut O) -> Result<(), Fault>
+    requires { changes ≤ 10000 }
+    ensures { Writes (says (map (λ j. ended (doze_line j)) (range_with_len 1 changes))) (O.seen out.old) (O.seen out.new) result }
 {
-    let bytes = made_capture(alloc, n)?;
-    write_piece(out, bytes.as_slice())
+    for j in 1..changes + 1 {
+        let line = doze_line(alloc, j)?;
+        out.say(line.as_bytes())?;
+    }
+    Ok(())
+}
+
+// Writes the made script, a line a piece.
+fn write_script<O: Lines>(alloc: Global, n: u32, out: &mut O) -> Result<(), Fault>
+    requires { n ≤ 100000 }
+    ensures { Writes (makes What.Script n) (O.seen out.old) (O.seen out.new) result }
+{
+    write_opening(out)?;
+    write_changes(alloc, n / 10, out)
+}
+
+// Writes the records of so many made frames.
+fn write_records<O: Lines>(alloc: Global, n: u32, out: &mut O) -> Result<(), Fault>
+    requires { n ≤ 100000 }
+    ensures { Writes (says (map made_record (range_with_len 1 n))) (O.seen out.old) (O.seen out.new) result }
+{
+    for k in 1..n + 1 {
+        let record = made_record(alloc, k)?;
+        out.say(record.as_slice())?;
+    }
+    Ok(())
+}
+
+// Writes the made capture: the file header and each record a piece.
+fn write_capture<O: Lines>(alloc: Global, n: u32, out: &mut O) -> Result<(), Fault>
+    requires { n ≤ 100000 }
+    ensures { Writes (makes What.Capture n) (O.seen out.old) (O.seen out.new) result }
+{
+    let head = made_head(alloc)?;
+    out.say(head.as_slice())?;
+    write_records(alloc, n, out)
 }
 
 // Filters the made script and the made capture in memory, and writes the counters and the totals.
-#[tactic(auto, unfolding(crate::specs::Ends::Meets))]
-fn write_summary<O: Sink>(alloc: Global, n: u32, out: &mut O) -> Result<(), Fault>
+fn write_summary<O: Lines>(alloc: Global, n: u32, out: &mut O) -> Result<(), Fault>
     requires { n ≤ 100000 }
-    ensures defined { Meets (Some (Ok tt)) (IsMade What.Summary n) (O.held out.old) (O.held out.new) result }
-    ensures quiet { OnErr result (result ≢ Err Fault.Write → result ≢ Err Fault.OutOfMemory → Keeps (O.held out.old) (O.held out.new)) }
-    ensures accepted { result ≢ Err Fault.Usage }
-    ensures no_read { (input : Input) → result ≢ Err (Fault.Read input) }
-    ensures no_open { (input : Input) → result ≢ Err (Fault.Open input) }
-    ensures write { result ≡ Err Fault.Write → Rose (O.faults out.old) (O.faults out.new) }
-    ensures out_faults { O.faults out.old ≤ O.faults out.new }
+    ensures { Writes (makes What.Summary n) (O.seen out.old) (O.seen out.new) result }
 {
     let filtering = replayed(alloc, n)?;
     filtering.write_totals(alloc, out)?;
     Ok(())
 }
 
-/// Writes the made script or the made capture of a number, as one piece, or the last lines of the report of both: the
-/// counters that aren't 0 and the totals, line by line.
-pub fn make<O: Sink>(alloc: Global, values: &MadeWords, out: &mut O) -> Result<(), Fault>
-    ensures defined { Meets (Some (Ok tt)) (IsMade values.now.what values.now.n) (O.held out.old) (O.held out.new) result }
-    ensures quiet { OnErr result (result ≢ Err Fault.Write → result ≢ Err Fault.OutOfMemory → Keeps (O.held out.old) (O.held out.new)) }
-    ensures accepted { result ≢ Err Fault.Usage }
-    ensures no_read { (input : Input) → result ≢ Err (Fault.Read input) }
-    ensures no_open { (input : Input) → result ≢ Err (Fault.Open input) }
-    ensures write { result ≡ Err Fault.Write → Rose (O.faults out.old) (O.faults out.new) }
-    ensures out_faults { O.faults out.old ≤ O.faults out.new }
+// Writes what is asked for.
+fn write_made<O: Lines>(alloc: Global, values: &MadeWords, out: &mut O) -> Result<(), Fault>
+    ensures { Writes (make_plan (making_of values.now)) (O.seen out.old) (O.seen out.new) result }
 {
     match values.what {
         What::Script => write_script(alloc, values.n, out),
         What::Capture => write_capture(alloc, values.n, out),
         What::Summary => write_summary(alloc, values.n, out),
+    }
+}
+
+/// Writes the made script of a number, a line a piece; the made capture, its header and each record a piece; or the last
+/// lines of the report of both, which are the counters that aren't 0 and the totals.
+pub fn make<O: Lines>(alloc: Global, what: &str, n: &str, out: &mut O) -> Result<(), Fault>
+    ensures { (shelf : Shelving) → Does (make_meaning what.now n.now) (stage shelf (O.seen out.old)) (stage shelf (O.seen out.new)) result }
+{
+    match made_words(what, n) {
+        Some(values) => write_made(alloc, &values, out),
+        None => Err(Fault::Usage),
     }
 }

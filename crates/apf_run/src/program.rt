@@ -1,17 +1,17 @@
 //! `program`: a generated program alone.
+#![tactic(auto, using(command_plan::proofs::Rules::following, command_plan::proofs::Rules::meaning))]
 
-ghost use Rattle.std.specs.Prelude.{◌≡◌, ◌≢◌, ◌≤◌, ◌⊎◌, ◌∷◌, [], string_bytes, IfOk, IfErr, OnOk, OnErr, Ok, Err, Some};
-ghost use Rattle.std.specs.Io.KnownBytes.{Keeps};
-ghost use Rattle.apf_base.specs.Causes.{Rose};
-ghost use Rattle.apf_run.specs.Ends.{Meets};
-ghost use Rattle.apf_run.specs.ProgramText.{IsBasisOf, IsCodeOf, IsProgram, code_line, program_end};
-ghost use Rattle.apf_run.specs.Tasks.{setting_of};
+ghost use Rattle.std.specs.Prelude.{◌≡◌, string_bytes, IfOk};
+ghost use Rattle.command_plan.specs.Follows.{Shelving, Thinks, Writes, stage};
+ghost use Rattle.command_plan.specs.Meaning.{Does};
+ghost use Rattle.apf_run.specs.Program.{IsBasisOf, code_line, generates, program_meaning, program_plan};
+ghost use Rattle.apf_run.specs.Settings.{setting_of};
 
-use crate::fault::{Fault, Input};
-use crate::files::write_piece;
 use crate::setting::ProgramWords;
+use crate::words::program_words;
 use apf_base::{List, OutOfMemory, Sink};
 use apf_generate::generate;
+use command_plan::{Fault, Lines, Refusal};
 use policy_state::{Basis, Config, FilterState};
 use size_fit::base;
 use std::alloc::Global;
@@ -37,17 +37,15 @@ fn basis_of(alloc: Global, values: &ProgramWords) -> Basis
     }
 }
 
-// The code, where its base fits.
+// A code for a setting, where its base fits.
 fn code_of(alloc: Global, values: &ProgramWords) -> Result<List<u8>, Fault>
-    ensures ok { IfOk result (IsCodeOf (setting_of values.now)) }
-    ensures fits { OnOk result (program_end (setting_of values.now) ≡ Ok tt) }
-    ensures err { IfErr result (λ fault. (fault ≡ Fault.OutOfMemory) ⊎ (program_end (setting_of values.now) ≡ Err fault)) }
+    ensures { Thinks (generates (setting_of values.now)) result }
 {
     let basis = basis_of(alloc, values);
     let need = base(&basis.config, &basis.state);
     let limit = basis.config.capacity - 128;
     if limit < need {
-        return Err(Fault::TooLarge { need, limit });
+        return Err(Fault::Refused(Refusal::TooLarge { need, limit }));
     }
     let code = generate(alloc, &basis)?;
     Ok(code)
@@ -63,29 +61,28 @@ fn code_line(alloc: Global, code: &[u8]) -> Result<String, OutOfMemory>
     Ok(line)
 }
 
-// The one line.
-fn program_line(alloc: Global, values: &ProgramWords) -> Result<String, Fault>
-    ensures ok { IfOk result (λ line. IsProgram (setting_of values.now) (Ok tt) (string_bytes line ∷ [])) }
-    ensures fits { OnOk result (program_end (setting_of values.now) ≡ Ok tt) }
-    ensures err { IfErr result (λ fault. (fault ≡ Fault.OutOfMemory) ⊎ (program_end (setting_of values.now) ≡ Err fault)) }
+// Generates the program for a setting, and writes its code in hexadecimal.
+fn write_program<O: Lines>(alloc: Global, values: &ProgramWords, out: &mut O) -> Result<(), Fault>
+    ensures { Writes (program_plan (setting_of values.now)) (O.seen out.old) (O.seen out.new) result }
 {
     let code = code_of(alloc, values)?;
     let line = code_line(alloc, code.as_slice())?;
-    Ok(line)
+    out.say(line.as_bytes())
 }
 
-/// Generates the program for a setting, and writes its code in hexadecimal.
-#[tactic(auto, unfolding(crate::specs::Ends::Meets))]
-pub fn program<O: Sink>(alloc: Global, values: &ProgramWords, out: &mut O) -> Result<(), Fault>
-    ensures defined { let setting = setting_of values.now in
-        Meets (Some (program_end setting)) (IsProgram setting) (O.held out.old) (O.held out.new) result }
-    ensures quiet { OnErr result (result ≢ Err Fault.Write → result ≢ Err Fault.OutOfMemory → Keeps (O.held out.old) (O.held out.new)) }
-    ensures accepted { result ≢ Err Fault.Usage }
-    ensures no_read { (input : Input) → result ≢ Err (Fault.Read input) }
-    ensures no_open { (input : Input) → result ≢ Err (Fault.Open input) }
-    ensures write { result ≡ Err Fault.Write → Rose (O.faults out.old) (O.faults out.new) }
-    ensures out_faults { O.faults out.old ≤ O.faults out.new }
+/// Generates the program for a setting, and writes its code in hexadecimal: one line.
+pub fn program<O: Lines>(
+    alloc: Global,
+    mac: &str,
+    capacity: &str,
+    address: &str,
+    flags: &str,
+    out: &mut O,
+) -> Result<(), Fault>
+    ensures { (shelf : Shelving) → Does (program_meaning mac.now capacity.now address.now flags.now) (stage shelf (O.seen out.old)) (stage shelf (O.seen out.new)) result }
 {
-    let line = program_line(alloc, values)?;
-    write_piece(out, line.as_bytes())
+    match program_words(mac, capacity, address, flags) {
+        Some(values) => write_program(alloc, &values, out),
+        None => Err(Fault::Usage),
+    }
 }

@@ -1,9 +1,10 @@
 -- What a plan may open first, and behind its first step.
-use Rattle.std.proofs.Common.{◌≡◌, ℕ, List, Option, None, Result, Ok, Err, subst}
+use Rattle.std.proofs.Common.{◌≡◌, ◌≤◌, ℕ, List, length, sym, Option, None, Result, Ok, Err, subst}
 use Rattle.command_plan.specs.declared.fault.Input.{Input}
 use Rattle.command_plan.specs.declared.fault.Fault.{Fault}
 use Rattle.command_plan.specs.declared.fault.Fault.TheVariants as faults
 use Rattle.command_plan.specs.declared.fault.Refusal.TheVariants.{TooLong}
+use Rattle.command_plan.specs.Files.{limit_of}
 use Rattle.command_plan.specs.Follows.{Shelving, Stage, Follows, Reads, sinking}
 use Rattle.command_plan.specs.Follows as f
 use Rattle.command_plan.specs.Plan.{Plan, ◌>>=◌, asks, picks, says, MayFetch, MayHold}
@@ -42,3 +43,6 @@ read_held input path bytes a b (f.Asks.asked all c held idle whole (f.Ends.ended
 -- what a file held that was read
 pub asked : (input : Input) (path bytes : List ℕ) (a b : Shelving) → Reads (asks input path) a b (Ok bytes) → MayHold input (a.file path) bytes
 asked input path bytes a b h = read_held input path bytes _ _ (h.at (sinking None 0))
+
+pub asked_fits : (input : Input) (path bytes slice : List ℕ) (a b : Shelving) → slice ≡ bytes → Reads (asks input path) a b (Ok bytes) → length slice ≤ limit_of input.kind
+asked_fits input path bytes slice a b is h = subst (λ (l : List ℕ). length l ≤ limit_of input.kind) (sym is) (asked input path bytes a b h).fits

@@ -6,3 +6,4 @@ pub mod Rules
 pub mod Saying
 pub mod Stages
 pub mod Stepping
+pub mod Texts

@@ -95,16 +95,16 @@ says_none lines a none = record {
 
 -- ---- lines of a list, one for each item
 
-module _ {P : Type 0} (f : P → List ℕ) (list : List P) (i : ℕ) (d : P) (line : List ℕ) (a c b : Sinking) (r : Result (Unit {0}) Fault) where
+module _ {P : Type 0} (f : P → List ℕ) (list : List P) (i : ℕ) (d : P) (line : List ℕ) (a b : Sinking) (r : Result (Unit {0}) Fault) where
   item_and_rest : i < length list → line ≡ f (get_or list i d) → line ∷ map f (drop (i + 1) list) ≡ map f (drop i list)
   item_and_rest below is =
       let split : drop i list ≡ get_or list i d ∷ drop (i + 1) list = rw (add-one, drop-cons list i d) refl in
       ap (λ x. x ∷ map f (drop (i + 1) list)) is ∙ sym (ap (map f) split)
 
   -- the line of an item was written, and then those behind it
-  pub item_said : i < length list → line ≡ f (get_or list i d) → Writes (says (line ∷ [])) a c (Ok tt) → Writes (says (map f (drop (i + 1) list))) c b r
+  pub item_said : (c : Sinking) → i < length list → line ≡ f (get_or list i d) → Writes (says (line ∷ [])) a c (Ok tt) → Writes (says (map f (drop (i + 1) list))) c b r
       → Writes (says (map f (drop i list))) a b r
-  item_said below is first more =
+  item_said c below is first more =
       subst (λ (l : List (List ℕ)). Writes (says l) a b r) (item_and_rest below is) (says_more a b (line ∷ []) (map f (drop (i + 1) list)) c r first more)
 
   pub item_unsaid : (fault : Fault) → i < length list → line ≡ f (get_or list i d) → Writes (says (line ∷ [])) a b (Err fault) → r ≡ Err fault → Writes (says (map f (drop i list))) a b r

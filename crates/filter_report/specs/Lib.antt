@@ -1,5 +1,6 @@
 pub mod Along
 pub mod Arrivals
+pub mod Faults
 pub mod Lines
 pub mod Report
 pub mod Text

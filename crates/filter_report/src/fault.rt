@@ -2,8 +2,10 @@
 
 ghost use Rattle.std.specs.Prelude.{◌≡◌};
 ghost use Rattle.filter_report.specs.declared.fault.ReportFault.TheVariants.{OutOfMemory as NoMemory, Write as NotWritten};
+ghost use Rattle.filter_report.specs.Faults.{fault_of};
 
 use apf_base::{Failed, OutOfMemory};
+use command_plan::{Fault, Refusal};
 
 /// Why a report ends before its end.
 #[derive(Clone, Copy, Debug, PartialEq, Eq)]
@@ -28,5 +30,19 @@ impl From<Failed> for ReportFault {
 
     fn from(_: Failed) -> Self {
         ReportFault::Write
+    }
+}
+
+impl From<ReportFault> for Fault {
+    ghost from_gives = { λ e fault. fault ≡ fault_of e };
+
+    fn from(fault: ReportFault) -> Self {
+        match fault {
+            ReportFault::TooLarge { need, limit } => {
+                Fault::Refused(Refusal::TooLarge { need, limit })
+            }
+            ReportFault::OutOfMemory => Fault::OutOfMemory,
+            ReportFault::Write => Fault::Write,
+        }
     }
 }

@@ -11,7 +11,7 @@ mod script;
 #[cfg(test)]
 mod tests;
 
-pub use capture::made_capture;
+pub use capture::{made_capture, made_head, made_record};
 pub use frames::made_frame;
 pub use laws::{made_captures_are_whole, made_scripts_are_scripts};
-pub use script::made_script;
+pub use script::{doze_line, made_script, opening_lines};

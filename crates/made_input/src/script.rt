@@ -1,47 +1,50 @@
 //! The made script.
 
-ghost use Rattle.std.specs.Prelude.{◌≡◌, ◌≤◌, ◌++◌, OnOk, IfOk, string_bytes};
-ghost use Rattle.std.specs.List.{flat_map, range_with_len};
+ghost use Rattle.std.specs.Prelude.{◌≡◌, ◌≤◌, map, IfOk, string_bytes};
+ghost use Rattle.std.specs.List.{flat_map};
 ghost use Rattle.made_input.specs.MadeScripts.{opening, doze_line, ended, made_script};
 
 use apf_base::{List, OutOfMemory};
-use std::alloc::{AllocError, Global};
+use std::alloc::Global;
 
-/// The lines that each script begins with.
-const OPENING: &str = "apf 1
-mac 02:00:00:00:00:01
-capacity 2048
-start 1000
-drop802 on
-deny 88a2
-at 1000 multicast on
-at 1000 address 192.168.1.5/24
-";
-
-/// Adds the jth change of the doze.
-#[tactic(auto, unfolding(crate::specs::MadeScripts::doze_line))]
-fn add_doze(text: &mut String, j: u32) -> Result<(), AllocError>
-    requires { j ≤ 10000 }
-    ensures { OnOk result (string_bytes text.new ≡ string_bytes text.old ++ ended (doze_line j)) }
+/// The lines that each made script begins with, each with its line feed.
+pub fn opening_lines() -> &'static [&'static str]
+    ensures { map (λ line. line.now) result.now ≡ map ended opening }
 {
-    let second = 1000 + 10 * j;
-    if j % 2 == 1 {
-        write!(text, "at {second} doze on\n")?;
-    } else {
-        write!(text, "at {second} doze off\n")?;
-    }
-    Ok(())
+    &[
+        "apf 1\n",
+        "mac 02:00:00:00:00:01\n",
+        "capacity 2048\n",
+        "start 1000\n",
+        "drop802 on\n",
+        "deny 88a2\n",
+        "at 1000 multicast on\n",
+        "at 1000 address 192.168.1.5/24\n",
+    ]
 }
 
-/// The lines of a script with so many changes of the doze.
-fn script_text(alloc: Global, changes: u32) -> Result<String, AllocError>
-    requires { changes ≤ 10000 }
-    ensures { IfOk result (λ text. string_bytes text ≡ flat_map ended opening ++ flat_map (λ j. ended (doze_line j)) (range_with_len 1 changes)) }
+/// The line of the jth change of the doze, with its line feed: on for odd j, off for even j, at second 1000 + 10 j.
+#[tactic(auto, unfolding(crate::specs::MadeScripts::doze_line))]
+pub fn doze_line(alloc: Global, j: u32) -> Result<String, OutOfMemory>
+    requires { j ≤ 10000 }
+    ensures { IfOk result (λ line. string_bytes line ≡ ended (doze_line j)) }
 {
-    let mut text = String::new(alloc);
-    text.push_str(OPENING)?;
-    for j in 1..changes + 1 {
-        add_doze(&mut text, j)?;
+    let second = 1000 + 10 * j;
+    let line = if j % 2 == 1 {
+        format!(in alloc; "at {second} doze on\n")
+    } else {
+        format!(in alloc; "at {second} doze off\n")
+    }?;
+    Ok(line)
+}
+
+// The opening lines as one text.
+fn opening_text(alloc: Global) -> Result<List<u8>, OutOfMemory>
+    ensures { IfOk result (λ text. text ≡ flat_map ended opening) }
+{
+    let mut text = List::new(alloc);
+    for line in opening_lines() {
+        text.extend(line.as_bytes())?;
     }
     Ok(text)
 }
@@ -52,8 +55,10 @@ pub fn made_script(alloc: Global, n: u32) -> Result<List<u8>, OutOfMemory>
     requires { n ≤ 100000 }
     ensures { IfOk result (λ text. text ≡ made_script n) }
 {
-    let text = script_text(alloc, n / 10)?;
-    let mut bytes = List::new(alloc);
-    bytes.extend(text.as_bytes())?;
-    Ok(bytes)
+    let mut text = opening_text(alloc)?;
+    for j in 1..n / 10 + 1 {
+        let line = doze_line(alloc, j)?;
+        text.extend(line.as_bytes())?;
+    }
+    Ok(text)
 }

@@ -1,31 +1,122 @@
-use Rattle.std.proofs.Common.{Result, Err, ap, sym, subst, ◌∙◌}
+use Rattle.std.proofs.Common.{◌≡◌, [], ◌∷◌, List, Option, None, Some, length, map, fold, Result, Ok, Err, ap, sym, subst, ◌∙◌, refl, arith}
 use Rattle.std.proofs.lemmas.Result.{err_from_is_err_and}
-use Rattle.script_text.specs.ScriptLines.{contents_of}
-use Rattle.apf_run.proofs.Beginnings.{begin_fails, begin_goes, err_is, not_less}
-use Rattle.apf_run.specs.Ends.{Meets}
-use Rattle.apf_run.specs.FilterEnds.{IsReplayed, contents_end}
-use Rattle.apf_run.specs.declared.fault.Fault.{Fault}
+use Rattle.pcap_files.specs.Capture.{capture, frame_of}
+use Rattle.pcap_files.specs.declared.fault.PcapError.{PcapError}
+use Rattle.pcap_files.specs.declared.kinds.Placed.{Placed}
+use Rattle.pcap_files.specs.declared.kinds.Records.{Records}
+use Rattle.filter_core.specs.Replay.{begun, after_arrival}
+use Rattle.filter_report.specs.Along.{InCourse}
+use Rattle.filter_report.specs.Arrivals.{arrivals_of}
+use Rattle.filter_report.specs.Lines.{Adds, BreaksOff}
+use Rattle.filter_report.specs.Report.{Leads, Tells, ended}
+use Rattle.command_plan.specs.Follows.{Follows, Shelving, Sinking, stage, sinking}
+use Rattle.command_plan.specs.Plan.{texts}
+use Rattle.command_plan.specs.declared.fault.Fault.{Fault}
+use Rattle.command_plan.proofs.Following.{lacks_by}
+use Rattle.command_plan.proofs.Texts.{end_of, writes_seen}
+use Rattle.apf_run.specs.Exec.{refusal_by}
+use Rattle.apf_run.specs.Filter.{TellsAll}
+use Rattle.apf_run.proofs.Begun.{err_is}
+use Rattle.apf_run.proofs.Reported.{records_break, capture_refused, ending_breaks, all_reported}
+use Rattle.apf_run.proofs.Replaying.{capture_few}
 use Rattle.apf_run.proofs.filter.replay.Goals as goal
 
-pub returns-in_err-filtering-clause-defined : goal.returns-in_err-filtering-clause-defined
-returns-in_err-filtering-clause-defined g c =
-    let p = err_from_is_err_and c.from_residual.result c.from_residual.ensures.1 in
-    let script = c.args.script in
-    let file = g.H.Source.file c.args.shelf.now c.args.name.now in
-    let old = g.O.Sink.held c.args.out.now in
-    let new = g.O.Sink.held c.begin.new.out in
-    let fault = c.in_err-filtering.field-0.0 in
-    subst (λ (r : Result (Unit {0}) Fault). Meets (contents_end (contents_of script) file) (IsReplayed script file) old new r) (sym (p.1 ∙ ap (λ (x : Fault). Err x) p.2))
-    (begin_fails script c.requires.sound file old new fault
-    (λ e. c.in_err-filtering.ensures.front (ap (λ x. Err x) e))
-    (λ other. c.in_err-filtering.ensures.quiet (λ e. other (err_is e)))
-    (λ need limit e. c.in_err-filtering.ensures.too_large need limit (ap (λ x. Err x) e))
-    (λ lt. err_is (c.in_err-filtering.ensures.fits lt)))
+pub returns-in_err-found : goal.returns-in_err-found
+returns-in_err-found g c = λ script line h. record { at = λ shelf. lacks_by _ _ _ c.from_residual.ensures.1 }
 
-pub returns-clause-defined : goal.returns-clause-defined
-returns-clause-defined g c =
-    let script = c.args.script in
-    let file = g.H.Source.file c.args.shelf.now c.args.name.now in
-    begin_goes script c.requires.sound file _ _ _ c.in_ok-filtering.filtering c.report_on.result
-    (not_less _ _ (λ lt. let bad = c.in_ok-filtering.ensures.fits lt in absurd cc))
-    c.in_ok-filtering.ensures.ok (c.report_on.ensures.goes_on script)
+pub take_all-requires-clause-few : goal.take_all-requires-clause-few
+take_all-requires-clause-few g c =
+    let bytes = c.args.bytes.now in
+    let same : length c.as_slice.result.now ≡ length (capture bytes).list = ap length (c.as_slice.ensures ∙ ap (λ (r : Records). r.list) c.in_ok-found.ensures.capture) in
+    omega (arith, same, c.requires.none, c.requires.short, capture_few bytes)
+
+pub returns-in_err-take_all : goal.returns-in_err-take_all
+returns-in_err-take_all g c = λ script line h.
+    let p = err_from_is_err_and c.from_residual-in_err-take_all.result c.from_residual-in_err-take_all.ensures.1 in
+    let e = c.in_err-take_all.ensures in
+    let bytes = c.args.bytes.now in
+    let fault = c.in_err-take_all.field-0.0 in
+    let old = sinking (g.O.Sink.held c.args.out.now) (g.O.Sink.faults c.args.out.now) in
+    let new = sinking (g.O.Sink.held c.take_all.new.out) (g.O.Sink.faults c.take_all.new.out) in
+    let is : c.as_slice.result.now ≡ (capture bytes).list = c.as_slice.ensures ∙ ap (λ (r : Records). r.list) c.in_ok-found.ensures.capture in
+    rw (p.1, p.2) (writes_seen _ _ _ old new _ (g.met.O.Lines.seen_is c.args.out.now) (g.met.O.Lines.seen_is c.take_all.new.out)
+    (record {
+      at = λ shelf.
+          records_break script c.args.filtering line h bytes (λ k. omega (arith, c.type_inv.bytes k)) (stage shelf old) (stage shelf new)
+          (record { files = refl; faults = omega arith; misses = omega arith; out_faults = e.faults }) (capture bytes).end fault
+          (λ need limit w. e.no_limit need limit (ap (λ x. Err x) w)) (λ w. e.write (ap (λ x. Err x) w))
+          (subst (λ (rs : List Placed). BreaksOff fault (InCourse (begun script) c.args.filtering []) (Leads (fold after_arrival (begun script) (arrivals_of bytes rs)).told (map (frame_of bytes) rs)) old.held new.held) is
+          (e.err (begun script) []));
+    }))
+
+pub returns-in-Some : goal.returns-in-Some
+returns-in-Some g c = λ script line h.
+    let e = c.in_ok-take_all.ensures in
+    let bytes = c.args.bytes.now in
+    let old = sinking (g.O.Sink.held c.args.out.now) (g.O.Sink.faults c.args.out.now) in
+    let new = sinking (g.O.Sink.held c.take_all.new.out) (g.O.Sink.faults c.take_all.new.out) in
+    let is : c.as_slice.result.now ≡ (capture bytes).list = c.as_slice.ensures ∙ ap (λ (r : Records). r.list) c.in_ok-found.ensures.capture in
+    let some : (capture bytes).end ≡ Some c.in-Some.fault = sym (ap (λ (r : Records). r.end) c.in_ok-found.ensures.capture) ∙ c.in-Some.is in
+    writes_seen _ _ _ old new _ (g.met.O.Lines.seen_is c.args.out.now) (g.met.O.Lines.seen_is c.take_all.new.out)
+    (record {
+      at = λ shelf.
+          subst (λ (end : Option PcapError). Follows (texts (λ more. TellsAll end script (arrivals_of bytes (capture bytes).list) (line ∷ more)) (refusal_by end)) (stage shelf old) (stage shelf new) (end_of (refusal_by (Some c.in-Some.fault))))
+          (sym some)
+          (capture_refused script c.args.filtering line h bytes (λ k. omega (arith, c.type_inv.bytes k)) (stage shelf old) (stage shelf new)
+          (record { files = refl; faults = omega arith; misses = omega arith; out_faults = e.faults }) c.take_all.new.self c.in-Some.fault refl
+          (subst (λ (rs : List Placed). Adds (InCourse (begun script) c.args.filtering []) (InCourse (fold after_arrival (begun script) (arrivals_of bytes rs)) c.take_all.new.self (map (frame_of bytes) rs)) old.held new.held) is
+          (e.ok (begun script) [])));
+    })
+
+pub returns-in_err-finish : goal.returns-in_err-finish
+returns-in_err-finish g c = λ script line h.
+    let p = err_from_is_err_and c.from_residual-in_err-finish.result c.from_residual-in_err-finish.ensures.1 in
+    let e = c.in_ok-take_all.ensures in
+    let w = c.in_err-finish.ensures in
+    let bytes = c.args.bytes.now in
+    let g1 = c.take_all.new.self in
+    let fault = c.in_err-finish.field-0.0 in
+    let old = sinking (g.O.Sink.held c.args.out.now) (g.O.Sink.faults c.args.out.now) in
+    let mid = g.O.Sink.held c.take_all.new.out in
+    let new = sinking (g.O.Sink.held c.finish.new.out) (g.O.Sink.faults c.finish.new.out) in
+    let rs = c.as_slice.result.now in
+    let is : rs ≡ (capture bytes).list = c.as_slice.ensures ∙ ap (λ (r : Records). r.list) c.in_ok-found.ensures.capture in
+    let none : (capture bytes).end ≡ None = sym (ap (λ (r : Records). r.end) c.in_ok-found.ensures.capture) ∙ c.in-None.is in
+    rw (p.1, p.2) (writes_seen _ _ _ old new _ (g.met.O.Lines.seen_is c.args.out.now) (g.met.O.Lines.seen_is c.finish.new.out)
+    (record {
+      at = λ shelf.
+          subst (λ (end : Option PcapError). Follows (texts (λ more. TellsAll end script (arrivals_of bytes (capture bytes).list) (line ∷ more)) (refusal_by end)) (stage shelf old) (stage shelf new) (Err _))
+          (sym none)
+          (ending_breaks script c.args.filtering line h bytes (λ k. omega (arith, c.type_inv.bytes k)) (stage shelf old) (stage shelf new)
+          (record { files = refl; faults = omega arith; misses = omega arith; out_faults = omega (arith, e.faults, w.faults) }) g1 mid fault
+          (λ need limit x. w.no_limit need limit (ap (λ y. Err y) x)) (λ x. let rose = w.write (ap (λ y. Err y) x) in omega (arith, rose, e.faults))
+          (subst (λ (rs : List Placed). Adds (InCourse (begun script) c.args.filtering []) (InCourse (fold after_arrival (begun script) (arrivals_of bytes rs)) g1 (map (frame_of bytes) rs)) old.held mid) is
+          (e.ok (begun script) []))
+          (subst (λ (rs : List Placed). BreaksOff fault (InCourse (fold after_arrival (begun script) (arrivals_of bytes rs)) g1 (map (frame_of bytes) rs)) (Leads (ended (fold after_arrival (begun script) (arrivals_of bytes rs))) (map (frame_of bytes) rs)) mid new.held) is
+          (w.err (fold after_arrival (begun script) (arrivals_of bytes rs)) (map (frame_of bytes) rs))));
+    }))
+
+pub returns-in-None : goal.returns-in-None
+returns-in-None g c = λ script line h.
+    let e = c.in_ok-take_all.ensures in
+    let w = c.in_ok-finish.ensures in
+    let bytes = c.args.bytes.now in
+    let g1 = c.take_all.new.self in
+    let old = sinking (g.O.Sink.held c.args.out.now) (g.O.Sink.faults c.args.out.now) in
+    let mid = g.O.Sink.held c.take_all.new.out in
+    let new = sinking (g.O.Sink.held c.finish.new.out) (g.O.Sink.faults c.finish.new.out) in
+    let rs = c.as_slice.result.now in
+    let is : rs ≡ (capture bytes).list = c.as_slice.ensures ∙ ap (λ (r : Records). r.list) c.in_ok-found.ensures.capture in
+    let none : (capture bytes).end ≡ None = sym (ap (λ (r : Records). r.end) c.in_ok-found.ensures.capture) ∙ c.in-None.is in
+    writes_seen _ _ _ old new _ (g.met.O.Lines.seen_is c.args.out.now) (g.met.O.Lines.seen_is c.finish.new.out)
+    (record {
+      at = λ shelf.
+          subst (λ (end : Option PcapError). Follows (texts (λ more. TellsAll end script (arrivals_of bytes (capture bytes).list) (line ∷ more)) (refusal_by end)) (stage shelf old) (stage shelf new) (Ok tt))
+          (sym none)
+          (all_reported script c.args.filtering line h bytes (λ k. omega (arith, c.type_inv.bytes k)) (stage shelf old) (stage shelf new)
+          (record { files = refl; faults = omega arith; misses = omega arith; out_faults = omega (arith, e.faults, w.faults) }) g1 mid refl
+          (subst (λ (rs : List Placed). Adds (InCourse (begun script) c.args.filtering []) (InCourse (fold after_arrival (begun script) (arrivals_of bytes rs)) g1 (map (frame_of bytes) rs)) old.held mid) is
+          (e.ok (begun script) []))
+          (subst (λ (rs : List Placed). Adds (InCourse (fold after_arrival (begun script) (arrivals_of bytes rs)) g1 (map (frame_of bytes) rs)) (Tells (ended (fold after_arrival (begun script) (arrivals_of bytes rs))) (map (frame_of bytes) rs)) mid new.held) is
+          (w.ok (fold after_arrival (begun script) (arrivals_of bytes rs)) (map (frame_of bytes) rs))));
+    })

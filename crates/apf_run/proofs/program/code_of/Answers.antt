@@ -1,5 +1,19 @@
 -- The basis is that of the setting.
+use Rattle.std.proofs.Common.{refl}
+use Rattle.apf_run.specs.Settings.{setting_of}
+use Rattle.apf_run.proofs.Thought.{generated, not_generated}
 use Rattle.apf_run.proofs.program.code_of.Goals as goal
 
-pub returns-clause-ok : goal.returns-clause-ok
-returns-clause-ok c = record { basis = c.basis_of-basis.result; of = c.basis_of-basis.ensures; means = c.in_ok-code.ensures.means; short = c.in_ok-code.ensures.short }
+pub returns-then-limit-need : goal.returns-then-limit-need
+returns-then-limit-need c = not_generated (setting_of c.args.values.now) c.basis_of-basis.result c.basis_of-basis.ensures _ _ c.base-need.ensures refl c.if-limit-need.true
+
+pub returns : goal.returns
+returns c =
+    generated (setting_of c.args.values.now) c.basis_of-basis.result c.basis_of-basis.ensures _ _ c.in_ok-code.code c.base-need.ensures refl c.if-limit-need.false
+    (record {
+      basis = c.basis_of-basis.result;
+      of = c.basis_of-basis.ensures;
+      bytes = c.in_ok-code.ensures.bytes;
+      means = c.in_ok-code.ensures.means;
+      short = c.in_ok-code.ensures.short;
+    })

@@ -1,0 +1,100 @@
+-- What is worked out between reading and writing goes by its part of the plan.
+use Rattle.std.proofs.Common.{◌≡◌, ◌≤◌, ◌<◌, ◌⊎◌, inl, inr, ℕ, List, length, Bool, true, false, cond, ltb, Option, None, Some, Result, Ok, Err, IfOk, OnOk, IfErr, refl, sym, ap, subst, ◌∙◌}
+use Rattle.std.proofs.lemmas.Bool.{le-ltb, lt-ltb}
+use Rattle.apf_asm.specs.declared.item.Item.{Item}
+use Rattle.apf_asm.specs.declared.item.AsmError.{AsmError}
+use Rattle.apf_asm.specs.declared.item.AsmError.TheVariants as labels
+use Rattle.apf_asm.specs.Layout.{layout}
+use Rattle.apf_asm.specs.Refusals.{answer}
+use Rattle.size_fit.specs.Sizes.{base, base_for, limit_of, limit_for}
+use Rattle.policy_state.specs.declared.basis.Basis.{Basis}
+use Rattle.command_plan.specs.declared.fault.Refusal.{Refusal}
+use Rattle.command_plan.specs.declared.fault.Refusal.TheVariants.{Twice, Unknown, Backward, CodeTooLong, TooLarge}
+use Rattle.command_plan.specs.declared.fault.Fault.{Fault}
+use Rattle.command_plan.specs.declared.fault.Fault.TheVariants as faults
+use Rattle.command_plan.specs.Follows.{Stage, Follows, Thinks}
+use Rattle.command_plan.specs.Plan.{Plan, Done, picks, unless, ◌>>=◌}
+use Rattle.command_plan.proofs.Following.{done, fails, picked, refused, then_on}
+use Rattle.command_plan.proofs.Texts.{ended}
+use Rattle.apf_run.specs.Asm.{accepts, assembles}
+use Rattle.apf_run.specs.Program.{IsBasisOf, IsCodeOf, generates, room_refusal}
+use Rattle.apf_run.specs.Settings.{Setting}
+
+-- ---- `asm`
+
+module _ (items : List Item) where
+  pub has_code : (bytes : List ℕ) → answer items ≡ None → bytes ≡ (layout items).bytes → Thinks (assembles items) (Ok bytes)
+  has_code bytes none is = record {
+    at = λ s.
+        then_on (accepts (answer items)) (λ _. Done (layout items).bytes) tt s s s (Ok bytes)
+        (subst (λ (o : Option AsmError). Follows (accepts o) s s (Ok tt)) (sym none) (done tt s (Ok tt) refl))
+        (done (layout items).bytes s (Ok bytes) (ap (λ (l : List ℕ). Ok l) is));
+  }
+
+  -- the refusal of an error that isn't want of memory
+  abbrev Refuses : AsmError → Refusal → Type 0
+  Refuses (labels.Twice item label) refusal = refusal ≡ Twice item label
+  Refuses (labels.Unknown item label) refusal = refusal ≡ Unknown item label
+  Refuses (labels.Backward item label) refusal = refusal ≡ Backward item label
+  Refuses (labels.TooLong bytes) refusal = refusal ≡ CodeTooLong
+  Refuses labels.OutOfMemory refusal = ⊥
+
+  refuses : (error : AsmError) (refusal : Refusal) (s : Stage) → Refuses error refusal → Follows (accepts (Some error)) s s (Err (faults.Refused refusal))
+  refuses (labels.Twice item label) refusal s is = refused (Twice item label) s _ (ap (λ (r : Refusal). Err (faults.Refused r)) is)
+  refuses (labels.Unknown item label) refusal s is = refused (Unknown item label) s _ (ap (λ (r : Refusal). Err (faults.Refused r)) is)
+  refuses (labels.Backward item label) refusal s is = refused (Backward item label) s _ (ap (λ (r : Refusal). Err (faults.Refused r)) is)
+  refuses (labels.TooLong bytes) refusal s is = refused CodeTooLong s _ (ap (λ (r : Refusal). Err (faults.Refused r)) is)
+  refuses labels.OutOfMemory refusal s is = absurd is
+
+  pub has_no_code : (error known : AsmError) (refusal : Refusal) → error ≡ known → (error ≡ labels.OutOfMemory) ⊎ (answer items ≡ Some error) → Refuses known refusal
+      → Thinks (assembles items) (Err (faults.Refused refusal))
+  has_no_code error known refusal same (inl lacks) is = absurd (subst (λ (e : AsmError). Refuses e refusal) (sym same ∙ lacks) is)
+  has_no_code error known refusal same (inr found) is = record {
+    at = λ s.
+        fails (accepts (answer items)) (λ _. Done (layout items).bytes) (faults.Refused refusal) s s _ refl
+        (subst (λ (o : Option AsmError). Follows (accepts o) s s (Err (faults.Refused refusal))) (sym (found ∙ ap (λ (e : AsmError). Some e) same)) (refuses known refusal s is));
+  }
+
+-- ---- `program`
+
+module _ (setting : Setting) (basis : Basis) (is : IsBasisOf setting basis) where
+  base_is : base basis.config basis.state ≡ base_for 0 0
+  base_is = rw (is.deny, is.state) refl
+
+  limit_is : limit_of basis.config ≡ limit_for setting.capacity
+  limit_is = ap limit_for is.capacity
+
+  abbrev Room : Bool → Option Refusal
+  Room t = cond t (Some (TooLarge (base_for 0 0) (limit_for setting.capacity))) None
+
+  has_room : base_for 0 0 ≤ limit_for setting.capacity → room_refusal setting ≡ None
+  has_room fits = by_test (ltb (limit_for setting.capacity) (base_for 0 0)) (le-ltb _ _ fits)
+    where
+      by_test : (t : Bool) → t ≡ false → Room t ≡ None
+      by_test true e = absurd cc
+      by_test false e = refl
+
+  has_none : limit_for setting.capacity < base_for 0 0 → room_refusal setting ≡ Some (TooLarge (base_for 0 0) (limit_for setting.capacity))
+  has_none lt = by_test (ltb (limit_for setting.capacity) (base_for 0 0)) (lt-ltb _ _ lt)
+    where
+      by_test : (t : Bool) → t ≡ true → Room t ≡ Some (TooLarge (base_for 0 0) (limit_for setting.capacity))
+      by_test true e = refl
+      by_test false e = absurd cc
+
+  pub generated : (need limit : ℕ) (code : List ℕ) → need ≡ base basis.config basis.state → limit ≡ limit_of basis.config → need ≤ limit → IsCodeOf setting code → Thinks (generates setting) (Ok code)
+  generated need limit code n l fits of = record {
+    at = λ s.
+        then_on (unless (room_refusal setting)) (λ _. picks (IsCodeOf setting)) tt s s s (Ok code)
+        (subst (λ (o : Option Refusal). Follows (unless o) s s (Ok tt)) (sym (has_room (subst (λ (m : ℕ). m ≤ limit_for setting.capacity) (n ∙ base_is) (subst (λ (m : ℕ). need ≤ m) (l ∙ limit_is) fits)))) (ended None s))
+        (picked (IsCodeOf setting) code s (Ok code) refl of);
+  }
+
+  pub not_generated : (need limit : ℕ) → need ≡ base basis.config basis.state → limit ≡ limit_of basis.config → limit < need → Thinks (generates setting) (Err (faults.Refused (TooLarge need limit)))
+  not_generated need limit n l lt =
+      let small : limit_for setting.capacity < base_for 0 0 = subst (λ (m : ℕ). m < base_for 0 0) (l ∙ limit_is) (subst (λ (m : ℕ). limit < m) (n ∙ base_is) lt) in
+      let same : TooLarge need limit ≡ TooLarge (base_for 0 0) (limit_for setting.capacity) = ap (λ m. TooLarge m limit) (n ∙ base_is) ∙ ap (λ m. TooLarge (base_for 0 0) m) (l ∙ limit_is) in
+      record {
+        at = λ s.
+            fails (unless (room_refusal setting)) (λ _. picks (IsCodeOf setting)) (faults.Refused (TooLarge need limit)) s s _ refl
+            (subst (λ (o : Option Refusal). Follows (unless o) s s (Err (faults.Refused (TooLarge need limit)))) (sym (has_none small ∙ ap (λ (r : Refusal). Some r) (sym same))) (ended (Some (TooLarge need limit)) s));
+      }

@@ -1,0 +1,11 @@
+-- What a report's fault is to a command.
+use Rattle.filter_report.specs.declared.fault.ReportFault.{ReportFault}
+use Rattle.filter_report.specs.declared.fault.ReportFault.TheVariants as reports
+use Rattle.command_plan.specs.declared.fault.Refusal.TheVariants.{TooLarge}
+use Rattle.command_plan.specs.declared.fault.Fault.{Fault}
+use Rattle.command_plan.specs.declared.fault.Fault.TheVariants.{Refused, OutOfMemory, Write}
+
+abbrev pub fault_of : ReportFault → Fault
+fault_of (reports.TooLarge need limit) = Refused (TooLarge need limit)
+fault_of reports.OutOfMemory = OutOfMemory
+fault_of reports.Write = Write

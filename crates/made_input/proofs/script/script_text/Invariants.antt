@@ -1,9 +1,0 @@
--- The changes below this number were written.
-use Rattle.std.proofs.Common.{◌≡◌, ◌-◌, ◌++◌}
-use Rattle.std.specs.Prelude.{string_bytes}
-use Rattle.std.specs.List.{flat_map, range_with_len}
-use Rattle.made_input.specs.MadeScripts.{opening, doze_line, ended}
-use Rattle.made_input.proofs.script.script_text.Given as goal
-
-abbrev pub invariant-loop-j : goal.invariant-loop-j
-invariant-loop-j l = string_bytes l.text ≡ flat_map ended opening ++ flat_map (λ j. ended (doze_line j)) (range_with_len 1 (l.j - 1))
