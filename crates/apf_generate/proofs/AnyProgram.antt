@@ -84,7 +84,7 @@ module _ (basis : Basis) (to most : ℕ) (xs : List Item) (part : IsPart (asked 
   pub forms : All IsItemForm (between_ends xs)
   forms = All-append IsItemForm (opening_items ++ xs) end_items (forms_of (opening_items ++ xs) front.each) end_forms
 
-  labelled : All IsLabelled (between_ends xs)
+  pub labelled : All IsLabelled (between_ends xs)
   labelled = All-append IsLabelled (opening_items ++ xs) end_items (label_form_of (opening_items ++ xs) front.each) end_labelled
 
   leads : AllLead (between_ends xs)

@@ -17,7 +17,7 @@ use Rattle.policy_state.specs.declared.state.Keepalive.{Keepalive}
 use Rattle.policy_state.specs.Asking.{first_of}
 use Rattle.policy_state.specs.Ip4.{keepalive_answers}
 use Rattle.policy_state.specs.Policy.{link, arp, ip4}
-use Rattle.apf_generate.specs.Ranges.{IsMac, IsAddress, IsChosen, IsBasis}
+use Rattle.apf_generate.specs.Ranges.{AreBytes, IsMac, IsAddress, IsChosen, IsBasis}
 use Rattle.policy_state.specs.Records.{advertised_again}
 use Rattle.rule_items.specs.Fragment.{Emits, IsPart}
 use Rattle.rule_items.specs.Rulings.{said_of}
@@ -38,7 +38,7 @@ use Rattle.apf_generate.specs.Program.{AddsRecords, AddsIp6, IsProgram}
 use Rattle.apf_generate.specs.RaListing.{ra_items}
 use Rattle.apf_generate.specs.Sizes.{weights, need_of}
 use Rattle.apf_generate.proofs.Chosen.{records_few, no_records}
-use Rattle.apf_generate.proofs.Generated.{code_means, code_short}
+use Rattle.apf_generate.proofs.Generated.{code_bytes, code_means, code_short}
 use Rattle.apf_generate.proofs.Ip6Question.{ip6_added}
 use Rattle.apf_generate.proofs.Joined.{joined}
 use Rattle.apf_generate.proofs.RaForm.{ra_emitted}
@@ -192,5 +192,8 @@ module _ (basis : Basis) (h : IsBasis basis) (fits : need_of basis ≤ limit_of 
   code-short : length code ≤ need_of basis
   code-short = code_short basis program_list basis.config.few basis.config.most is_program fits code refl
 
-pub program_exists : (basis : Basis) → IsBasis basis → need_of basis ≤ limit_of basis.config → (code : List ℕ) × Means code basis × (length code ≤ need_of basis)
-program_exists basis h fits = (code basis h fits, code-means basis h fits, code-short basis h fits)
+  code-bytes : AreBytes code
+  code-bytes = code_bytes basis program_list basis.config.few basis.config.most is_program fits code refl
+
+pub program_exists : (basis : Basis) → IsBasis basis → need_of basis ≤ limit_of basis.config → (code : List ℕ) × Means code basis × (length code ≤ need_of basis) × AreBytes code
+program_exists basis h fits = (code basis h fits, code-means basis h fits, code-short basis h fits, code-bytes basis h fits)

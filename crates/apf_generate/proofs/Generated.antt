@@ -10,9 +10,11 @@ use Rattle.policy_state.specs.declared.basis.Basis.{Basis}
 use Rattle.apf_generate.specs.Listing.{between_ends}
 use Rattle.apf_generate.specs.Means.{Means}
 use Rattle.apf_generate.specs.Program.{most_asked, IsProgram}
+use Rattle.apf_generate.specs.Ranges.{AreBytes}
 use Rattle.apf_generate.specs.Sizes.{need_of}
 use Rattle.size_fit.specs.Sizes.{limit_of}
-use Rattle.apf_generate.proofs.AnyProgram.{forms, few_items, length-bytes, means_of, not_refused}
+use Rattle.apf_generate.proofs.AnyProgram.{forms, labelled, few_items, length-bytes, means_of, not_refused}
+use Rattle.apf_generate.proofs.LayoutBytes.{bytes-layout}
 
 module _ (basis : Basis) (xs : List Item) (few : length basis.config.deny ≤ 32) (most : basis.config.capacity ≤ 8192) (p : IsProgram basis xs) (fits : need_of basis ≤ limit_of basis.config) where
   small : most_asked basis ≤ 65000
@@ -35,6 +37,11 @@ module _ (basis : Basis) (xs : List Item) (few : length basis.config.deny ≤ 32
 
   pub code_short : (code : List ℕ) → code ≡ (layout xs).bytes → length code ≤ need_of basis
   code_short code e = omega (arith, length-code code e)
+
+  pub code_bytes : (code : List ℕ) → code ≡ (layout xs).bytes → AreBytes code
+  code_bytes code e =
+      subst AreBytes (sym (code_is code e))
+      (bytes-layout (between_ends p.questions) (forms basis p.holds.to _ p.questions p.holds.part small) (labelled basis p.holds.to _ p.questions p.holds.part small))
 
   -- no label is refused, and the code isn't too long
   pub none_refused : (error : AsmError) → refusal xs ≡ Some error → ⊥

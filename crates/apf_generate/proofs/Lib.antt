@@ -5,6 +5,7 @@ pub mod Existing
 pub mod Generated
 pub mod Ip6Question
 pub mod Joined
+pub mod LayoutBytes
 pub mod OneWay
 pub mod Others
 pub mod RaForm

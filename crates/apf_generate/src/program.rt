@@ -4,6 +4,7 @@ ghost use Rattle.std.specs.Prelude.{◌≡◌, ◌≤◌, ◌++◌, length, IfOk
 ghost use Rattle.apf_generate.specs.Means.{Means};
 ghost use Rattle.apf_generate.specs.Listing.{raising_items, ip6_test_items, ip6_last_items, last_items, end_items};
 ghost use Rattle.apf_generate.specs.Program.{AddsIp6, IsProgram};
+ghost use Rattle.apf_generate.specs.Ranges.{AreBytes};
 ghost use Rattle.apf_generate.specs.Sizes.{need_of};
 ghost use Rattle.size_fit.specs.Sizes.{limit_of};
 
@@ -120,6 +121,7 @@ fn assembled(alloc: Global, basis: &Basis, items: &[Item]) -> Result<List<u8>, O
     requires fits { need_of basis.now ≤ limit_of basis.now.config }
     ensures means { IfOk result (λ code. Means code basis.now) }
     ensures short { IfOk result (λ code. length code ≤ need_of basis.now) }
+    ensures bytes { IfOk result AreBytes }
 {
     match assemble_bytes(alloc, items) {
         Ok(code) => Ok(code),
@@ -138,11 +140,12 @@ fn assembled(alloc: Global, basis: &Basis, items: &[Item]) -> Result<List<u8>, O
 /// and where the policy meets a missing field.
 ///
 /// What the basis needs, which is its base and the weights of its chosen records, is at most the capacity less 128. The
-/// program has no more bytes than that.
+/// program has no more bytes than that, and each is a number below 256.
 pub fn generate(alloc: Global, basis: &Basis) -> Result<List<u8>, OutOfMemory>
     requires fits { need_of basis.now ≤ limit_of basis.now.config }
     ensures means { IfOk result (λ code. Means code basis.now) }
     ensures short { IfOk result (λ code. length code ≤ need_of basis.now) }
+    ensures bytes { IfOk result AreBytes }
 {
     let items = program_items(alloc, basis)?;
     assembled(alloc, basis, items.as_slice())

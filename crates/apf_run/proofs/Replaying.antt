@@ -29,7 +29,7 @@ codes_of : (is : List Installed) → All HasSoundBasis is → All HasRoom is →
 codes_of [] sound room = tt
 codes_of (i ∷ is) sound room =
     let found = program_exists i.basis (All-head HasSoundBasis i is sound) (All-head HasRoom i is room) in (
-      (found.0, record { means = found.1; size = found.2; room = All-head HasRoom i is room }),
+      (found.0, record { means = found.1; size = found.2; room = All-head HasRoom i is room; bytes = found.3 }),
       codes_of is (All-tail HasSoundBasis i is sound) (All-tail HasRoom i is room),
     )
 

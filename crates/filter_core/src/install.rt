@@ -2,6 +2,7 @@
 
 ghost use Rattle.std.specs.Prelude.{◌≡◌, ◌≤◌, length};
 ghost use Rattle.apf_generate.specs.Means.{Means};
+ghost use Rattle.apf_generate.specs.Ranges.{AreBytes};
 ghost use Rattle.apf_generate.specs.Sizes.{need_of};
 ghost use Rattle.size_fit.specs.Sizes.{limit_of};
 
@@ -13,7 +14,7 @@ use std::alloc::Global;
 /// A program that stands, and what it was made from.
 ///
 /// Its code means its basis, and has at most as many bytes as the base and the weights of the chosen records, for which
-/// the device has room. These are facts of the type: no value is without them.
+/// the device has room. Each is a number below 256. These are facts of the type: no value is without them.
 #[derive(Debug, Drop)]
 pub struct Install {
     /// The first install has 0, and each later one has one more.
@@ -28,6 +29,7 @@ pub struct Install {
     pub ghost means: { ∥ Means code basis ∥₁ },
     pub ghost short: { length code ≤ need_of basis },
     pub ghost fits: { need_of basis ≤ limit_of basis.config },
+    pub ghost bytes: { AreBytes code },
 }
 
 impl Install {

@@ -28,11 +28,12 @@ ghost use Rattle.filter_core.specs.Steps.{Filter, Answered, state_of, config_of,
 ghost use Rattle.filter_core.specs.Tally.{raised_by, count, memory_of};
 ghost use Rattle.filter_core.specs.declared.install.Install.{Install};
 
-/// Each install's program means what it was made from, and has room.
+/// Each install's program means what it was made from, has room, and is of bytes.
 pub fn programs_mean_their_basis()
     ensures means { (i : Install) → Means i.code i.basis }
     ensures short { (i : Install) → length i.code ≤ need_of i.basis }
     ensures fits { (i : Install) → need_of i.basis ≤ limit_of i.basis.config }
+    ensures bytes { (i : Install) → AreBytes i.code }
 {}
 
 /// The longest prefix of the records that fits is chosen, and the chosen records and those that are left are all of them,

@@ -21,7 +21,7 @@ use Rattle.filter_core.specs.Replay.{Entry, Arrival, install, reply, answer, lea
 use Rattle.policy_state.specs.declared.basis.Script.{Script}
 use Rattle.filter_report.proofs.Telling.{length-AllFit}
 use Rattle.filter_report.specs.Arrivals.{frames_of}
-use Rattle.filter_report.specs.Report.{Tells, IsReport, IsStory}
+use Rattle.filter_report.specs.Report.{AllFit, Tells, IsReport, IsStory}
 use Rattle.filter_report.specs.Text.{entry_lines}
 
 -- ---- hexadecimal text
@@ -148,18 +148,25 @@ at_each P n (learnt m r ∷ entries) h all k lt = at_each P n entries h all k lt
 at_each P n (counted c m ∷ entries) h all k lt = at_each P n entries h all k lt
 at_each P n (total a b d ∷ entries) h all k lt = at_each P n entries h all k lt
 
-one_list : (entries : List Entry) (frames lines : List (List ℕ)) → AreByLast 0 entries → (a b : Tells entries frames lines) → All AreBytes a.programs → a.programs ≡ b.programs
-one_list entries frames lines numbered a b bytes =
+-- codes that fit are of bytes
+fit_bytes : (programs : List (List ℕ)) (installs : List Installed) → AllFit programs installs → All AreBytes programs
+fit_bytes [] [] fit = All-nil AreBytes
+fit_bytes [] (i ∷ installs) fit = absurd fit
+fit_bytes (code ∷ programs) [] fit = absurd fit
+fit_bytes (code ∷ programs) (i ∷ installs) fit = All-cons AreBytes code programs fit.0.bytes (fit_bytes programs installs fit.1)
+
+one_list : (entries : List Entry) (frames lines : List (List ℕ)) → AreByLast 0 entries → (a b : Tells entries frames lines) → a.programs ≡ b.programs
+one_list entries frames lines numbered a b =
     let installs = installs_of entries in
     let first = length-AllFit a.programs installs a.fit in
     let second = length-AllFit b.programs installs b.fit in
-    let each = codes_told a.programs b.programs _ _ entries bytes (sym a.telling ∙ b.telling) in
+    let each = codes_told a.programs b.programs _ _ entries (fit_bytes a.programs installs a.fit) (sym a.telling ∙ b.telling) in
     let At = λ (n : ℕ). get_or a.programs n [] ≡ get_or b.programs n [] in
     ext_get_or [] a.programs b.programs (sym first ∙ second)
     (λ k lt. let here : 0 + k ≡ k = omega arith in subst At here (at_each At 0 entries numbered each k (omega (arith, first, lt))))
 
-pub report_codes : (script : Script) (arrivals : List Arrival) (lines : List (List ℕ)) (one other : IsReport script arrivals lines) → All AreBytes one.programs → one.programs ≡ other.programs
-report_codes script arrivals lines one other bytes = one_list (replay script arrivals) (frames_of arrivals) lines (replay_by_last script arrivals) one other bytes
+pub report_codes : (script : Script) (arrivals : List Arrival) (lines : List (List ℕ)) (one other : IsReport script arrivals lines) → one.programs ≡ other.programs
+report_codes script arrivals lines one other = one_list (replay script arrivals) (frames_of arrivals) lines (replay_by_last script arrivals) one other
 
-pub story_codes : (script : Script) (arrivals : List Arrival) (lines : List (List ℕ)) (one other : IsStory script arrivals lines) → All AreBytes one.programs → one.programs ≡ other.programs
-story_codes script arrivals lines one other bytes = one_list (story script arrivals) (frames_of arrivals) lines (course_numbered script arrivals).by_last one other bytes
+pub story_codes : (script : Script) (arrivals : List Arrival) (lines : List (List ℕ)) (one other : IsStory script arrivals lines) → one.programs ≡ other.programs
+story_codes script arrivals lines one other = one_list (story script arrivals) (frames_of arrivals) lines (course_numbered script arrivals).by_last one other

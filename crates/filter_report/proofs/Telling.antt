@@ -111,7 +111,7 @@ told_install c core new frames lines f a is next kept =
     let answers : answers_of (c.told ++ e ∷ []) ≡ answers_of c.told = answers-append c.told (e ∷ []) ∙ append-nil (answers_of c.told) in
     let installs : installs_of (c.told ++ e ∷ []) ≡ installs_of c.told ++ plain new.install ∷ [] = installs-append c.told (e ∷ []) in
     let place : new.install.number ≡ length a.programs = next ∙ sym a.count in
-    let fits : Fits code (plain new.install) = record { means = meaning new.install; size = new.install.short; room = new.install.fits } in
+    let fits : Fits code (plain new.install) = record { means = meaning new.install; size = new.install.short; room = new.install.fits; bytes = new.install.bytes } in
     subst (λ (g : Filter). Along (tells c g (install g.install ∷ [])) new frames (lines ++ line code ∷ [])) is (record {
       programs = a.programs ++ code ∷ [];
       fit = rw installs (AllFit-append a.programs (installs_of c.told) (code ∷ []) (plain new.install ∷ []) a.fit (fits, tt));

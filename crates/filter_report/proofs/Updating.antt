@@ -82,7 +82,7 @@ told_first script core line is shown =
     let none : core.install.number ≡ 0 = ap (λ (f : Filter). f.install.number) is.filter in
     record {
       programs = core.install.code ∷ [];
-      fit = subst (λ (i : Installed). AllFit (core.install.code ∷ []) (i ∷ [])) same (record { means = meaning core.install; size = core.install.short; room = core.install.fits }, tt);
+      fit = subst (λ (i : Installed). AllFit (core.install.code ∷ []) (i ∷ [])) same (record { means = meaning core.install; size = core.install.short; room = core.install.fits; bytes = core.install.bytes }, tt);
       stands = rw none refl;
       count = rw none refl;
       at = is.filter;

@@ -2,6 +2,7 @@
 use Rattle.std.specs.Prelude.{◌≡◌, ℕ, ◌≤◌, List, [], ◌∷◌, ◌++◌, length, get_or}
 use Rattle.apf_coding.specs.Run.{run}
 use Rattle.apf_generate.specs.Means.{Means}
+use Rattle.apf_generate.specs.Ranges.{AreBytes}
 use Rattle.apf_generate.specs.Sizes.{need_of}
 use Rattle.data_counters.specs.declared.counter.Counter.{Counter}
 use Rattle.policy_state.specs.declared.basis.Basis.{Basis}
@@ -18,12 +19,13 @@ use Rattle.filter_report.specs.Text.{entry_lines}
 abbrev pub HasRoom : Basis → Type 0
 HasRoom basis = need_of basis ≤ limit_of basis.config
 
--- A code is right for an install: it means the basis, and is no longer than the base and the weights of the chosen
--- records, for which the device has room.
+-- A code is right for an install: it is of bytes, means the basis, and is no longer than the base and the weights of the
+-- chosen records, for which the device has room.
 pub record Fits (code : List ℕ) (i : Installed) : Type 0 where
   pub means : Means code i.basis
   pub size : length code ≤ need_of i.basis
   pub room : HasRoom i.basis
+  pub bytes : AreBytes code
 
 -- each install has its code, in order
 abbrev pub AllFit : List (List ℕ) → List Installed → Type 0

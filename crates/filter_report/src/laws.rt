@@ -24,12 +24,12 @@ pub fn reports_tell_their_codes()
         All (λ i. get_or programs i.number [] ≡ get_or others i.number []) (installs_of entries) }
 {}
 
-/// A report has one list of codes: where two lists are each right for the installs of a script over frames, and the same
-/// lines are the report with the one and with the other, they are the same list, if one is of bytes. The same holds of the
-/// lines up to those of the last frame.
+/// Two lists of codes that fit an output are one: where two lists are each right for the installs of a script over frames,
+/// and the same lines are the report with the one and with the other, they are the same list. The same holds of the lines
+/// up to those of the last frame. So the codes that fit an output are those that stand in it.
 pub fn reports_have_one_list_of_codes()
     ensures report { (script : Script) (arrivals : List Arrival) (lines : List (List ℕ)) (one other : IsReport script arrivals lines) →
-        All AreBytes one.programs → one.programs ≡ other.programs }
+        one.programs ≡ other.programs }
     ensures story { (script : Script) (arrivals : List Arrival) (lines : List (List ℕ)) (one other : IsStory script arrivals lines) →
-        All AreBytes one.programs → one.programs ≡ other.programs }
+        one.programs ≡ other.programs }
 {}

@@ -1,6 +1,6 @@
 -- What was assembled are the items of the whole program, and no other refusal than want of memory comes.
 use Rattle.std.proofs.Common.{Err, ap, ◌∙◌}
-use Rattle.apf_generate.proofs.Generated.{items_formed, items_few, code_means, code_short, none_refused, not_overlong}
+use Rattle.apf_generate.proofs.Generated.{items_formed, items_few, code_bytes, code_means, code_short, none_refused, not_overlong}
 use Rattle.apf_generate.proofs.program.assembled.Goals as goal
 
 pub assemble_bytes-requires-clause-forms : goal.assemble_bytes-requires-clause-forms
@@ -14,6 +14,9 @@ returns-in-Ok-clause-means c = code_means c.args.basis.now c.args.items.now c.ar
 
 pub returns-in-Ok-clause-short : goal.returns-in-Ok-clause-short
 returns-in-Ok-clause-short c = code_short c.args.basis.now c.args.items.now c.args.basis.now.config.few c.args.basis.now.config.most c.requires.program c.requires.fits _ c.in-Ok.ensures.bytes
+
+pub returns-in-Ok-clause-bytes : goal.returns-in-Ok-clause-bytes
+returns-in-Ok-clause-bytes c = code_bytes c.args.basis.now c.args.items.now c.args.basis.now.config.few c.args.basis.now.config.most c.requires.program c.requires.fits _ c.in-Ok.ensures.bytes
 
 pub unreachable-requires : goal.unreachable-requires
 unreachable-requires c =
