@@ -1,8 +1,9 @@
 -- The made script and the made capture, as the filter takes them.
-use Rattle.std.proofs.Common.{◌≡◌, ◌≤◌, ◌<◌, ◌++◌, ℕ, List, [], length, map, fold, Option, None, Some, Result, Ok, Err, IfOk, refl, sym, ap, subst, ◌∙◌, arith, append-nil}
+use Rattle.std.proofs.Common.{◌≡◌, ◌≤◌, ◌<◌, ◌++◌, ◌∷◌, ◌/◌, ℕ, List, [], length, map, fold, Option, None, Some, Result, Ok, Err, IfOk, refl, sym, ap, subst, ◌∙◌, arith, append-nil}
 use Rattle.std.specs.List.{concat}
 use Rattle.std.specs.Io.KnownBytes.{Keeps}
-use Rattle.std.proofs.lemmas.List.{length-map}
+use Rattle.std.specs.List.{range_with_len}
+use Rattle.std.proofs.lemmas.List.{length-map, map-append}
 use Rattle.std.proofs.lemmas.List.FromFn.{length-map-range_with_len}
 use Rattle.apf_base.specs.Causes.{Rose}
 use Rattle.apf_base.specs.Streams.{AppendsFront, AppendsAll}
@@ -26,7 +27,7 @@ use Rattle.filter_report.specs.Text.{entry_lines}
 use Rattle.filter_report.specs.declared.fault.ReportFault.{ReportFault}
 use Rattle.filter_report.specs.declared.fault.ReportFault.TheVariants as reports
 use Rattle.made_input.specs.MadeCaptures.{made_capture, made_stamp}
-use Rattle.made_input.specs.MadeScripts.{made_script, made_contents}
+use Rattle.made_input.specs.MadeScripts.{doze_line, ended, made_contents, made_lines, made_script, opening}
 use Rattle.made_input.proofs.Said.{said, script_short}
 use Rattle.made_input.proofs.Whole.{whole}
 use Rattle.filter_report.specs.Faults.{fault_of}
@@ -36,6 +37,7 @@ use Rattle.command_plan.specs.Follows.{Stage, Later, Follows}
 use Rattle.command_plan.specs.Plan.{says}
 use Rattle.command_plan.proofs.Following.{lacks, then_pick}
 use Rattle.command_plan.proofs.Saying.{all_said}
+use Rattle.command_plan.proofs.Stages.{idle_refl}
 use Rattle.command_plan.proofs.Texts.{front_said}
 use Rattle.apf_run.specs.Make.{IsSummary, HasBegunMade, HasEndedMade, makes, summary_lines}
 use Rattle.apf_run.specs.declared.setting.What.TheVariants.{Summary}
@@ -133,3 +135,19 @@ module _ (n : ℕ) (f : Reporting) (a b : Stage) (later : Later a b) (is : HasEn
   totals_fail result reports.Write e front keeps none rose =
       then_pick (IsSummary n) says Lines a b (Err faults.Write) are
       (subst (λ (l : List (List ℕ)). Follows (says l) a b (Err faults.Write)) (append-nil Lines) (front_said a b later Lines [] (rose e) (front _ is.2.0 is.2.1 is.2.2 e)))
+
+-- memory was wanting before the totals
+pub replay_fails : (n : ℕ) (s : Stage) (fault : ReportFault) → ((need limit : ℕ) → fault ≡ reports.TooLarge need limit → ⊥) → (fault ≡ reports.Write → ⊥) → Follows (makes Summary n) s s (Err (fault_of fault))
+replay_fails n s (reports.TooLarge need limit) none written = absurd (none need limit refl)
+replay_fails n s reports.OutOfMemory none written = lacks (makes Summary n) s s _ refl (idle_refl s)
+replay_fails n s reports.Write none written = absurd (written refl)
+
+-- ---- the pieces of the made script
+
+map_map : (f : ℕ → List ℕ) (js : List ℕ) → map ended (map f js) ≡ map (λ j. ended (f j)) js
+map_map f [] = refl
+map_map f (j ∷ js) = ap (λ (l : List (List ℕ)). ended (f j) ∷ l) (map_map f js)
+
+pub script_lines : (n : ℕ) → map ended opening ++ map (λ j. ended (doze_line j)) (range_with_len 1 (n / 10)) ≡ map ended (made_lines n)
+script_lines n =
+    sym (map-append ended opening (map doze_line (range_with_len 1 (n / 10))) ∙ ap (λ (l : List (List ℕ)). map ended opening ++ l) (map_map doze_line (range_with_len 1 (n / 10))))

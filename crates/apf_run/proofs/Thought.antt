@@ -8,8 +8,15 @@ use Rattle.apf_asm.specs.Layout.{layout}
 use Rattle.apf_asm.specs.Refusals.{answer}
 use Rattle.size_fit.specs.Sizes.{base, base_for, limit_of, limit_for}
 use Rattle.policy_state.specs.declared.basis.Basis.{Basis}
+use Rattle.policy_state.specs.declared.basis.Script.{Script}
+use Rattle.script_text.specs.ScriptLines.{Contents, contents_of}
+use Rattle.script_text.specs.Scripts.{IsScriptText}
+use Rattle.script_text.specs.ScriptReading.{Fails, script_answer}
+use Rattle.script_text.specs.declared.script_error.ScriptError.{ScriptError}
+use Rattle.script_text.specs.declared.script_error.ScriptError.TheVariants.{Bad}
+use Rattle.script_text.specs.declared.script_error.ScriptKind.{ScriptKind}
 use Rattle.command_plan.specs.declared.fault.Refusal.{Refusal}
-use Rattle.command_plan.specs.declared.fault.Refusal.TheVariants.{Twice, Unknown, Backward, CodeTooLong, TooLarge}
+use Rattle.command_plan.specs.declared.fault.Refusal.TheVariants.{BadScript, Twice, Unknown, Backward, CodeTooLong, TooLarge}
 use Rattle.command_plan.specs.declared.fault.Fault.{Fault}
 use Rattle.command_plan.specs.declared.fault.Fault.TheVariants as faults
 use Rattle.command_plan.specs.Follows.{Stage, Follows, Thinks}
@@ -17,6 +24,7 @@ use Rattle.command_plan.specs.Plan.{Plan, Done, picks, unless, ◌>>=◌}
 use Rattle.command_plan.proofs.Following.{done, fails, picked, refused, then_on}
 use Rattle.command_plan.proofs.Texts.{ended}
 use Rattle.apf_run.specs.Asm.{accepts, assembles}
+use Rattle.apf_run.specs.Filter.{reads_script, says_something}
 use Rattle.apf_run.specs.Program.{IsBasisOf, IsCodeOf, generates, room_refusal}
 use Rattle.apf_run.specs.Settings.{Setting}
 
@@ -98,3 +106,22 @@ module _ (setting : Setting) (basis : Basis) (is : IsBasisOf setting basis) wher
             fails (unless (room_refusal setting)) (λ _. picks (IsCodeOf setting)) (faults.Refused (TooLarge need limit)) s s _ refl
             (subst (λ (o : Option Refusal). Follows (unless o) s s (Err (faults.Refused (TooLarge need limit)))) (sym (has_none small ∙ ap (λ (r : Refusal). Some r) (sym same))) (ended (Some (TooLarge need limit)) s));
       }
+
+-- ---- `filter`
+
+module _ (text : List ℕ) where
+  pub script_read : (script : Script) → IsScriptText text script → script_answer text ≡ Ok (contents_of script) → Thinks (reads_script text) (Ok script)
+  script_read script is told = record {
+    at = λ s.
+        then_on (says_something (script_answer text)) (λ _. picks (IsScriptText text)) tt s s s (Ok script)
+        (subst (λ (r : Result Contents ScriptError). Follows (says_something r) s s (Ok tt)) (sym told) (done tt s (Ok tt) refl))
+        (picked (IsScriptText text) script s (Ok script) refl is);
+  }
+
+  pub script_bad : (error : ScriptError) (line : ℕ) (kind : ScriptKind) → error ≡ Bad line kind → Fails error (script_answer text) → Thinks (reads_script text) (Err (faults.Refused (BadScript line kind)))
+  script_bad error line kind is fails_so = record {
+    at = λ s.
+        fails (says_something (script_answer text)) (λ _. picks (IsScriptText text)) (faults.Refused (BadScript line kind)) s s _ refl
+        (subst (λ (r : Result Contents ScriptError). Follows (says_something r) s s (Err (faults.Refused (BadScript line kind))))
+        (sym (subst (λ (e : ScriptError). Fails e (script_answer text)) is fails_so)) (refused (BadScript line kind) s _ refl));
+  }

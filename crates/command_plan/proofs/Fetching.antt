@@ -5,9 +5,9 @@ use Rattle.command_plan.specs.declared.fault.Fault.{Fault}
 use Rattle.command_plan.specs.declared.fault.Fault.TheVariants as faults
 use Rattle.command_plan.specs.declared.fault.Refusal.TheVariants.{TooLong}
 use Rattle.command_plan.specs.Files.{limit_of}
-use Rattle.command_plan.specs.Follows.{Shelving, Stage, Follows, Reads, sinking}
+use Rattle.command_plan.specs.Follows.{Shelving, Sinking, Stage, Follows, Reads, Thinks, Writes, shelving, sinking, stage}
 use Rattle.command_plan.specs.Follows as f
-use Rattle.command_plan.specs.Plan.{Plan, ◌>>=◌, asks, picks, says, MayFetch, MayHold}
+use Rattle.command_plan.specs.Plan.{Plan, Done, Refuse, Ask, Pick, Say, ◌>>=◌, asks, picks, says, MayFetch, MayHold}
 use Rattle.command_plan.proofs.Stages.{no_fault}
 
 module _ {A : Type 0} (may : List ℕ → Type 0) where
@@ -18,6 +18,35 @@ module _ {A : Type 0} (may : List ℕ → Type 0) where
   pub behind_ask : (input : Input) (path : List ℕ) (next : List ℕ → Plan A) (bytes : List ℕ) → MayFetch may (asks input path >>= next) → MayFetch may (next bytes)
   unfolding MayFetch ◌>>=◌
   behind_ask input path next bytes h = h.1 bytes
+
+  -- behind a plan that was followed to its answer
+  pub behind : {B : Type 0} (p : Plan B) (next : B → Plan A) (x : B) (a b : Stage) → Follows p a b (Ok x) → MayFetch may (p >>= next) → MayFetch may (next x)
+  unfolding Follows MayFetch ◌>>=◌
+  behind {B = B} (Done y) next x a b (f.Ends.no_memory e) h = no_fault faults.OutOfMemory a b x e
+  behind {B = B} (Done y) next x a b (f.Ends.ended is s) h =
+      let e : y ≡ x = cc in
+      subst (λ (z : B). MayFetch may (next z)) e h
+  behind (Refuse refusal) next x a b (f.Ends.no_memory e) h = no_fault faults.OutOfMemory a b x e
+  behind (Refuse refusal) next x a b (f.Ends.ended is s) h = absurd (cc)
+  behind (Ask input path rest) next x a b (f.Asks.no_memory e) h = no_fault faults.OutOfMemory a b x e
+  behind (Ask input path rest) next x a b (f.Asks.unopened e rose) h = no_fault (faults.Open input) a b x e
+  behind (Ask input path rest) next x a b (f.Asks.unread e rose) h = no_fault (faults.Read input) a b x e
+  behind (Ask input path rest) next x a b (f.Asks.too_long e told) h = no_fault (faults.Refused (TooLong input)) a b x e
+  behind (Ask input path rest) next x a b (f.Asks.asked bytes c held idle whole more) h = behind (rest bytes) next x c b more (h.1 bytes)
+  behind (Pick P rest) next x a b (f.Picks.no_memory e) h = no_fault faults.OutOfMemory a b x e
+  behind (Pick P rest) next x a b (f.Picks.picked y has more) h = behind (rest y) next x a b more (h y has)
+  behind (Say lines rest) next x a b (f.Says.no_memory is later first) h = absurd (cc)
+  behind (Say lines rest) next x a b (f.Says.unwritten is later rose front) h = absurd (cc)
+  behind (Say lines rest) next x a b (f.Says.said c later left appends more) h = behind rest next x c b more h
+
+  pub behind_read : {B : Type 0} (p : Plan B) (next : B → Plan A) (x : B) (a b : Shelving) → Reads p a b (Ok x) → MayFetch may (p >>= next) → MayFetch may (next x)
+  behind_read p next x a b h m = behind p next x _ _ (h.at (sinking None 0)) m
+
+  pub behind_write : {B : Type 0} (p : Plan B) (next : B → Plan A) (x : B) (a b : Sinking) → Writes p a b (Ok x) → MayFetch may (p >>= next) → MayFetch may (next x)
+  behind_write p next x a b h m = behind p next x _ _ (h.at (shelving (λ name. None) None 0 0)) m
+
+  pub behind_think : {B : Type 0} (p : Plan B) (next : B → Plan A) (x : B) → Thinks p (Ok x) → MayFetch may (p >>= next) → MayFetch may (next x)
+  behind_think p next x h m = behind p next x _ _ (h.at (stage (shelving (λ name. None) None 0 0) (sinking None 0))) m
 
   pub behind_pick : {X : Type 0} (P : X → Type 0) (next : X → Plan A) (x : X) → P x → MayFetch may (picks P >>= next) → MayFetch may (next x)
   unfolding MayFetch ◌>>=◌

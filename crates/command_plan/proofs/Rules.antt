@@ -8,7 +8,7 @@ use Rattle.command_plan.specs.Follows as f
 use Rattle.command_plan.proofs.Stages.{idle_refl, rests_refl}
 use Rattle.command_plan.specs.Follows.{Stage, Shelving, Sinking, Follows, Reads, Writes, Thinks, stage}
 use Rattle.command_plan.proofs.Following.{then_on, then_as, then_pick, picked, fails, lacks, lacks_by, err_is, done, refused}
-use Rattle.command_plan.proofs.Fetching.{may_ask, behind_ask, behind_pick, behind_say}
+use Rattle.command_plan.proofs.Fetching.{may_ask, behind_read, behind_write, behind_think}
 
 module _ {A B : Type 0} where
   pub read_then : (p : Plan A) (next : A → Plan B) (x : A) (a c : Shelving) (out : Sinking) (b : Stage) (r : Result B Fault) → Reads p a c (Ok x)
@@ -116,4 +116,4 @@ module _ (may : List ℕ → Type 0) where
 
 pub ruleset meaning = (does_some, does_none, does_this, does_other, does_command, does_nothing, does_lack)
 
-pub ruleset fetching = (may_ask, behind_ask, behind_pick, behind_say)
+pub ruleset fetching = (may_ask, behind_read, behind_write, behind_think, may_this, may_other, may_some, may_command)

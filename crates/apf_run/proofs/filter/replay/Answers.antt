@@ -7,6 +7,7 @@ use Rattle.pcap_files.specs.declared.kinds.Records.{Records}
 use Rattle.filter_core.specs.Replay.{begun, after_arrival}
 use Rattle.filter_report.specs.Along.{InCourse}
 use Rattle.filter_report.specs.Arrivals.{arrivals_of}
+use Rattle.filter_report.specs.Faults.{fault_of}
 use Rattle.filter_report.specs.Lines.{Adds, BreaksOff}
 use Rattle.filter_report.specs.Report.{Leads, Tells, ended}
 use Rattle.command_plan.specs.Follows.{Follows, Shelving, Sinking, stage, sinking}
@@ -68,14 +69,14 @@ returns-in-Some g c = λ script line h.
           (e.ok (begun script) [])));
     })
 
-pub returns-in_err-finish : goal.returns-in_err-finish
-returns-in_err-finish g c = λ script line h.
-    let p = err_from_is_err_and c.from_residual-in_err-finish.result c.from_residual-in_err-finish.ensures.1 in
+pub returns-in_err-finish-in-None : goal.returns-in_err-finish-in-None
+returns-in_err-finish-in-None g c = λ script line h.
+    let p = err_from_is_err_and c.from_residual-in_err-finish-in-None.result c.from_residual-in_err-finish-in-None.ensures.1 in
     let e = c.in_ok-take_all.ensures in
-    let w = c.in_err-finish.ensures in
+    let w = c.in_err-finish-in-None.ensures in
     let bytes = c.args.bytes.now in
     let g1 = c.take_all.new.self in
-    let fault = c.in_err-finish.field-0.0 in
+    let fault = c.in_err-finish-in-None.field-0.0 in
     let old = sinking (g.O.Sink.held c.args.out.now) (g.O.Sink.faults c.args.out.now) in
     let mid = g.O.Sink.held c.take_all.new.out in
     let new = sinking (g.O.Sink.held c.finish.new.out) (g.O.Sink.faults c.finish.new.out) in
@@ -85,7 +86,7 @@ returns-in_err-finish g c = λ script line h.
     rw (p.1, p.2) (writes_seen _ _ _ old new _ (g.met.O.Lines.seen_is c.args.out.now) (g.met.O.Lines.seen_is c.finish.new.out)
     (record {
       at = λ shelf.
-          subst (λ (end : Option PcapError). Follows (texts (λ more. TellsAll end script (arrivals_of bytes (capture bytes).list) (line ∷ more)) (refusal_by end)) (stage shelf old) (stage shelf new) (Err _))
+          subst (λ (end : Option PcapError). Follows (texts (λ more. TellsAll end script (arrivals_of bytes (capture bytes).list) (line ∷ more)) (refusal_by end)) (stage shelf old) (stage shelf new) (Err (fault_of fault)))
           (sym none)
           (ending_breaks script c.args.filtering line h bytes (λ k. omega (arith, c.type_inv.bytes k)) (stage shelf old) (stage shelf new)
           (record { files = refl; faults = omega arith; misses = omega arith; out_faults = omega (arith, e.faults, w.faults) }) g1 mid fault
@@ -96,10 +97,10 @@ returns-in_err-finish g c = λ script line h.
           (w.err (fold after_arrival (begun script) (arrivals_of bytes rs)) (map (frame_of bytes) rs))));
     }))
 
-pub returns-in-None : goal.returns-in-None
-returns-in-None g c = λ script line h.
+pub returns-in_ok-finish-in-None : goal.returns-in_ok-finish-in-None
+returns-in_ok-finish-in-None g c = λ script line h.
     let e = c.in_ok-take_all.ensures in
-    let w = c.in_ok-finish.ensures in
+    let w = c.in_ok-finish-in-None.ensures in
     let bytes = c.args.bytes.now in
     let g1 = c.take_all.new.self in
     let old = sinking (g.O.Sink.held c.args.out.now) (g.O.Sink.faults c.args.out.now) in

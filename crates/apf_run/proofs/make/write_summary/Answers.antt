@@ -1,12 +1,18 @@
-use Rattle.std.proofs.Common.{◌≡◌, Err, refl, arith, sym}
+use Rattle.std.proofs.Common.{Err, ap, refl, arith}
 use Rattle.std.proofs.lemmas.Result.{err_from_is_err_and}
 use Rattle.command_plan.specs.Follows.{stage, sinking}
 use Rattle.command_plan.proofs.Texts.{writes_seen}
-use Rattle.apf_run.proofs.Made.{totals_done, totals_fail}
+use Rattle.apf_run.proofs.Made.{replay_fails, totals_done, totals_fail}
 use Rattle.apf_run.proofs.make.write_summary.Goals as goal
 
 pub returns-in_err-filtering : goal.returns-in_err-filtering
-returns-in_err-filtering g c = ?
+returns-in_err-filtering g c =
+    let p = err_from_is_err_and c.from_residual.result c.from_residual.ensures.1 in
+    record {
+      at = λ shelf.
+          rw (p.1, p.2) (replay_fails c.args.n (stage shelf _) c.in_err-filtering.field-0.0
+          (λ need limit e. c.in_err-filtering.ensures.no_limit need limit (ap (λ x. Err x) e)) (λ e. c.in_err-filtering.ensures.no_write (ap (λ x. Err x) e)));
+    }
 
 pub returns-in_err-write_totals : goal.returns-in_err-write_totals
 returns-in_err-write_totals g c =
