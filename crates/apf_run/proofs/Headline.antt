@@ -120,9 +120,12 @@ module _ (file : List ℕ → Option (List ℕ)) where
       elim first.3 [
         | inl unread ↦ let e : ◌≡◌ {A = Result (Unit {0}) Fault} (Ok tt) (Err unread.1) = unread.2 in absurd (cc)
         | inr read ↦
-            told (file c) read.0 (λ bytes. Reports text bytes lines) read.1.same
-            (script, is, subst (λ (l : List (List ℕ)). IsReport script (arrivals_of read.0 (capture read.0).list) l) (sym first.2)
-            (end_case script (arrivals_of read.0 (capture read.0).list) first.0 first.1 (capture read.0).end read.2))
+            told (file c) read.0 (λ bytes. Reports text bytes lines) read.1.same (
+              script,
+              is,
+              subst (λ (l : List (List ℕ)). IsReport script (arrivals_of read.0 (capture read.0).list) l) (sym first.2)
+                  (end_case script (arrivals_of read.0 (capture read.0).list) first.0 first.1 (capture read.0).end read.2),
+            )
       ]
 
   reported : (s c : List ℕ) (lines : List (List ℕ)) → MayEnd (filter_plan s c) file lines (Ok tt) → IfSome (file s) (λ text. IfSome (file c) (λ bytes. Reports text bytes lines))

@@ -26,12 +26,14 @@ const ADVERTISEMENT: [u8; 142] = [
     0x20, 1, 0x0d, 0xb8, 0, 0, 0, 0, 0, 0, 0, 0, 0, 0, 0, 1, // 2001:db8::1
 ];
 
-/// A frame: zeros, or the advertisement from fe80:: and this byte, with its router lifetime or without.
+/// A frame: zeros; the advertisement from fe80:: and this byte, with its router lifetime or without; or the advertisement
+/// cut or filled up with zeros to so many bytes, with the type and the length of its first option.
 #[derive(Clone, Copy)]
 enum Sent {
     Zeros,
     Router(u8),
     Leaving(u8),
+    Edited(usize, u8, u8),
 }
 
 const SCRIPT: &str =
@@ -106,7 +108,7 @@ const FIRST_LINE: Row = Row {
 };
 
 // A function, since what is proved of a test reads through each constant that it names.
-fn rows() -> [Row; 16] {
+fn rows() -> [Row; 18] {
     [
         EMPTY,
         Row {
@@ -191,6 +193,27 @@ fn rows() -> [Row; 16] {
             ..EMPTY
         },
         Row {
+            name: "advertisements that are refused",
+            frames: &[
+                (1000, Sent::Edited(69, 1, 1)),
+                (1000, Sent::Edited(1515, 1, 1)),
+                (1000, Sent::Edited(142, 1, 0)),
+                (1000, Sent::Edited(71, 1, 1)),
+                (1000, Sent::Edited(78, 3, 1)),
+            ],
+            lines: &[
+                "frame 1 gen 0 age 0 pass PASSED_IPV6_ICMP steps T",
+                "ra 1 bad short",
+                "ra 2 bad too-long",
+                "ra 3 bad zero-option 70",
+                "ra 4 bad cut-option 70",
+                "ra 5 bad short-option 70",
+                "total frames 5 passed 5 dropped 0 programs 1",
+            ],
+            count: 14,
+            ..EMPTY
+        },
+        Row {
             name: "a first program that doesn't fit",
             script: SCRIPT_512,
             status: 69,
@@ -224,6 +247,12 @@ fn rows() -> [Row; 16] {
             ],
             count: 8,
             ..EMPTY
+        },
+        Row {
+            name: "a capacity that is too low",
+            script: "apf 1\nmac 02:00:00:00:00:01\ncapacity 100\n",
+            err: "apf_run: script: line 3: form\n",
+            ..REFUSED
         },
         Row {
             name: "five lines",
@@ -292,11 +321,22 @@ fn rows() -> [Row; 16] {
     ]
 }
 
+// The advertisement cut or filled up, with another first option.
+fn edited(alloc: Global, length: usize, kind: u8, units: u8) -> Result<Vec<u8>, Fail> {
+    let mut frame = ADVERTISEMENT;
+    frame[70] = kind;
+    frame[71] = units;
+    let mut bytes = frame.to_vec(alloc)?;
+    bytes.resize(length, 0)?;
+    Ok(bytes)
+}
+
 fn frame_of(alloc: Global, sent: Sent) -> Result<Vec<u8>, Fail> {
     let (router, lifetime) = match sent {
         Sent::Zeros => return Ok(vec![in alloc; 0u8; 15]?),
         Sent::Router(router) => (router, 8),
         Sent::Leaving(router) => (router, 0),
+        Sent::Edited(length, kind, units) => return edited(alloc, length, kind, units),
     };
     let mut frame = ADVERTISEMENT;
     frame[37] = router;
@@ -321,7 +361,7 @@ fn capture_of(rt: &impl Abort, alloc: Global, row: &Row) -> Result<List<u8>, Fai
             fraction: 0,
             original: 0,
         };
-        assert!(rt; frame.len() <= 142);
+        assert!(rt; frame.len() <= 1515);
         put(alloc, kind, stamp, &frame, &mut capture)?;
     }
     let length = capture.len();

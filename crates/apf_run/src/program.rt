@@ -52,7 +52,7 @@ fn code_of(alloc: Global, values: &ProgramWords) -> Result<List<u8>, Fault>
 }
 
 // The line of a code: two hexadecimal digits a byte.
-#[tactic(auto, unfolding(crate::specs::ProgramText::code_line))]
+#[tactic(auto, unfolding(crate::specs::Program::code_line))]
 fn code_line(alloc: Global, code: &[u8]) -> Result<String, OutOfMemory>
     ensures { IfOk result (λ line. string_bytes line ≡ code_line code.now) }
 {

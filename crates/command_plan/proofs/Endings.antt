@@ -3,7 +3,7 @@ use Rattle.std.proofs.Common.{◌≡◌, ◌≤◌, ◌<◌, ◌⊎◌, inl, inr
 use Rattle.std.specs.Prelude.{⊤}
 use Rattle.std.specs.List.{concat}
 use Rattle.std.specs.Io.KnownBytes.{Appends, Keeps, IsAtEnd}
-use Rattle.std.proofs.KnownBytes.{Appends-kept, Appends-nil, Appends-trans}
+use Rattle.std.proofs.KnownBytes.{Appends-kept, Appends-nil, Appends-trans, Keeps-trans}
 use Rattle.apf_base.specs.Causes.{Rose}
 use Rattle.apf_base.specs.Streams.{AppendsFront, AppendsAll}
 use Rattle.command_plan.specs.declared.fault.Input.{Input}
@@ -13,9 +13,9 @@ use Rattle.command_plan.specs.declared.fault.Fault.{Fault}
 use Rattle.command_plan.specs.declared.fault.Fault.TheVariants as faults
 use Rattle.command_plan.specs.Ending.{EndsAs, MayEnd, Leaves, IsOwn, Calm}
 use Rattle.command_plan.specs.Files.{limit_of}
-use Rattle.command_plan.specs.Meaning.{Meaning, nothing, command, IsAccepted, Does, MayEndBy, ReadsWholeFor}
+use Rattle.command_plan.specs.Meaning.{Meaning, nothing, command, IsAccepted, Does, IsQuietFor, MayEndBy, ReadsWholeFor}
 use Rattle.command_plan.specs.Status.{status_of, refusal_status}
-use Rattle.command_plan.specs.Plan.{Plan, Done, Refuse, Ask, Pick, Say, MayHold, ReadsWhole}
+use Rattle.command_plan.specs.Plan.{Plan, Done, Refuse, Ask, Pick, Say, IsQuiet, MayHold, MayRefuse, ReadsWhole}
 use Rattle.command_plan.specs.Follows.{Stage, Later, Idle, Rests, EndsHere, Asks, Picks, Says, Ends, Follows}
 use Rattle.command_plan.specs.Follows as f
 use Rattle.command_plan.proofs.Saying.{all_and_all, all_and_front}
@@ -190,6 +190,81 @@ module _ {A : Type 0} where
   read_whole (Say lines rest) asked a b x h at (f.Says.unwritten is l rose front) = absurd (cc)
   read_whole (Say lines rest) asked a b x h at (f.Says.said c l left appends more) = read_whole rest asked c b x h (λ t. subst IsAtEnd (sym left) (at t)) more
 
+-- ---- plans that read and check everything before they write
+
+module _ {A : Type 0} where
+  -- an end before the lines of such a plan
+  abbrev pub IsEarly : Result A Fault → Type 0
+  IsEarly (Ok x) = ⊥
+  IsEarly (Err (faults.Refused (BadCapture fault))) = ⊥
+  IsEarly (Err faults.OutOfMemory) = ⊥
+  IsEarly (Err faults.Write) = ⊥
+  IsEarly end = ⊤
+
+  never_early : {P : Type 0} (r end : Result A Fault) → r ≡ end → (IsEarly end → ⊥) → IsEarly r → P
+  never_early r end is not early = absurd (not (subst (λ (e : Result A Fault). IsEarly e) is early))
+
+  of_capture : (p : Plan A) (refusal : Refusal) → MayRefuse true refusal → (let end : Result A Fault = Err (faults.Refused refusal) in IsEarly end) → ⊥
+  of_capture p (BadCapture fault) may early = early
+  of_capture p (BadScript line kind) may early = may
+  of_capture p (BadText line kind) may early = may
+  of_capture p (Twice item label) may early = may
+  of_capture p (Unknown item label) may early = may
+  of_capture p (Backward item label) may early = may
+  of_capture p (TooLong input) may early = may
+  of_capture p CodeTooLong may early = may
+  of_capture p (TooLarge need limit) may early = may
+
+  -- behind its lines it doesn't end so
+  loud : (p : Plan A) (a b : Stage) (r : Result A Fault) → IsQuiet true p → Follows p a b r → IsEarly r → ⊥
+  unfolding Follows IsQuiet
+  loud (Done x) a b r q (f.Ends.no_memory h) = never_early r (Err faults.OutOfMemory) h.is (λ e. e)
+  loud (Done x) a b r q (f.Ends.ended is s) = never_early r (Ok x) is (λ e. e)
+  loud (Refuse refusal) a b r q (f.Ends.no_memory h) = never_early r (Err faults.OutOfMemory) h.is (λ e. e)
+  loud (Refuse refusal) a b r q (f.Ends.ended is s) = never_early r (Err (faults.Refused refusal)) is (of_capture (Refuse refusal) refusal q)
+  loud (Ask input path rest) a b r q h = absurd q.0
+  loud (Pick P rest) a b r q (f.Picks.no_memory h) = never_early r (Err faults.OutOfMemory) h.is (λ e. e)
+  loud (Pick P rest) a b r q (f.Picks.picked x has more) = loud (rest x) a b r (q x has) more
+  loud (Say lines rest) a b r q (f.Says.no_memory is l first) = never_early r (Err faults.OutOfMemory) is (λ e. e)
+  loud (Say lines rest) a b r q (f.Says.unwritten is l rose front) = never_early r (Err faults.Write) is (λ e. e)
+  loud (Say lines rest) a b r q (f.Says.said c l left appends more) = loud rest c b r q more
+
+  -- before them it has written nothing
+  quiet : (p : Plan A) (a b : Stage) (r : Result A Fault) → IsQuiet false p → Follows p a b r → IsEarly r → Keeps a.out.held b.out.held
+  unfolding Follows IsQuiet
+  quiet (Done x) a b r q (f.Ends.no_memory h) early = h.idle.held
+  quiet (Done x) a b r q (f.Ends.ended is s) early = s.idle.held
+  quiet (Refuse refusal) a b r q (f.Ends.no_memory h) early = h.idle.held
+  quiet (Refuse refusal) a b r q (f.Ends.ended is s) early = s.idle.held
+  quiet (Ask input path rest) a b r q (f.Asks.no_memory h) early = h.idle.held
+  quiet (Ask input path rest) a b r q (f.Asks.unopened h rose) early = h.idle.held
+  quiet (Ask input path rest) a b r q (f.Asks.unread h rose) early = h.idle.held
+  quiet (Ask input path rest) a b r q (f.Asks.too_long h told) early = h.idle.held
+  quiet (Ask input path rest) a b r q (f.Asks.asked bytes c held idle whole more) early =
+      Keeps-trans a.out.held c.out.held b.out.held idle.held (quiet (rest bytes) c b r (q.1 bytes) more early)
+  quiet (Pick P rest) a b r q (f.Picks.no_memory h) early = h.idle.held
+  quiet (Pick P rest) a b r q (f.Picks.picked x has more) early = quiet (rest x) a b r (q x has) more early
+  quiet (Say lines rest) a b r q (f.Says.no_memory is l first) early = never_early r (Err faults.OutOfMemory) is (λ e. e) early
+  quiet (Say lines rest) a b r q (f.Says.unwritten is l rose front) early = never_early r (Err faults.Write) is (λ e. e) early
+  quiet (Say lines rest) a b r q (f.Says.said c l left appends more) early = absurd (loud rest c b r q more early)
+
+by_status : (end : Result (Unit {0}) Fault) → (status_of end ≡ 0 → ⊥) → (status_of end ≡ 65 → ⊥) → (status_of end ≡ 70 → ⊥) → (status_of end ≡ 72 → ⊥) → IsEarly end
+by_status (Ok x) ok capture memory write = ok refl
+by_status (Err (faults.Refused (BadCapture fault))) ok capture memory write = capture refl
+by_status (Err (faults.Refused (BadScript line kind))) ok capture memory write = tt
+by_status (Err (faults.Refused (BadText line kind))) ok capture memory write = tt
+by_status (Err (faults.Refused (Twice item label))) ok capture memory write = tt
+by_status (Err (faults.Refused (Unknown item label))) ok capture memory write = tt
+by_status (Err (faults.Refused (Backward item label))) ok capture memory write = tt
+by_status (Err (faults.Refused (TooLong input))) ok capture memory write = tt
+by_status (Err (faults.Refused CodeTooLong)) ok capture memory write = tt
+by_status (Err (faults.Refused (TooLarge need limit))) ok capture memory write = tt
+by_status (Err faults.OutOfMemory) ok capture memory write = memory refl
+by_status (Err faults.Usage) ok capture memory write = tt
+by_status (Err (faults.Read input)) ok capture memory write = tt
+by_status (Err faults.Write) ok capture memory write = write refl
+by_status (Err (faults.Open input)) ok capture memory write = tt
+
 -- ---- statuses
 
 -- the statuses of refusals lie between those of wrong words and of want of memory
@@ -252,14 +327,17 @@ module _ (a b : Stage) where
   usage_owes (Err faults.Write) h is = omega arith
   usage_owes (Err (faults.Open input)) h is = omega arith
 
+pub ended_well : (end : Result (Unit {0}) Fault) → status_of end ≡ 0 → end ≡ Ok tt
+ended_well (Ok x) is = refl
+ended_well (Err (faults.Refused refusal)) is = absurd (omega (arith, refusal_low refusal))
+ended_well (Err faults.OutOfMemory) is = absurd (omega arith)
+ended_well (Err faults.Usage) is = absurd (omega arith)
+ended_well (Err (faults.Read input)) is = absurd (omega arith)
+ended_well (Err faults.Write) is = absurd (omega arith)
+ended_well (Err (faults.Open input)) is = absurd (omega arith)
+
 at_end : (p : Plan (Unit {0})) (a b : Stage) (end : Result (Unit {0}) Fault) → Follows p a b end → status_of end ≡ 0 → ReadsWhole false p → IsAtEnd b.shelf.left
-at_end p a b (Ok x) h is whole = read_whole p false a b x whole (λ t. absurd (cc)) h
-at_end p a b (Err (faults.Refused refusal)) h is whole = absurd (omega (arith, refusal_low refusal))
-at_end p a b (Err faults.OutOfMemory) h is whole = absurd (omega arith)
-at_end p a b (Err faults.Usage) h is whole = absurd (omega arith)
-at_end p a b (Err (faults.Read input)) h is whole = absurd (omega arith)
-at_end p a b (Err faults.Write) h is whole = absurd (omega arith)
-at_end p a b (Err (faults.Open input)) h is whole = absurd (omega arith)
+at_end p a b end h is whole = read_whole p false a b tt whole (λ t. absurd (cc)) (subst (λ (e : Result (Unit {0}) Fault). Follows p a b e) (ended_well end is) h)
 
 -- ---- words
 
@@ -321,3 +399,8 @@ module _ (a b : Stage) (end : Result (Unit {0}) Fault) where
   pub does_whole : (m : Meaning) → Does m a b end → status_of end ≡ 0 → ReadsWholeFor m → IsAtEnd b.shelf.left
   does_whole nothing h is whole = absurd whole
   does_whole (command p) h is whole = at_end p a b end h is whole
+
+  pub does_quiet : (m : Meaning) → Does m a b end → IsQuietFor m → (status_of end ≡ 0 → ⊥) → (status_of end ≡ 65 → ⊥) → (status_of end ≡ 70 → ⊥) → (status_of end ≡ 72 → ⊥) → Keeps a.out.held b.out.held
+  does_quiet nothing (f.Ends.no_memory h) q ok capture memory write = h.idle.held
+  does_quiet nothing (f.Ends.ended is s) q ok capture memory write = s.idle.held
+  does_quiet (command p) h q ok capture memory write = quiet p a b end q h (by_status end ok capture memory write)

@@ -3,7 +3,7 @@ use Rattle.std.specs.Prelude.{ℕ, Bool, true, false, List, Option, None, Some, 
 use Rattle.std.specs.Str.{bytes_eq}
 use Rattle.command_plan.specs.Follows.{Stage, Ends, Follows}
 use Rattle.command_plan.specs.Ending.{EndsAs, MayEnd}
-use Rattle.command_plan.specs.Plan.{Plan, MayFetch, ReadsWhole}
+use Rattle.command_plan.specs.Plan.{Plan, IsQuiet, MayFetch, ReadsWhole}
 use Rattle.command_plan.specs.declared.fault.Fault.{Fault}
 use Rattle.command_plan.specs.declared.fault.Fault.TheVariants.{Usage}
 
@@ -45,3 +45,7 @@ MayFetchFor may (command plan) = MayFetch may plan
 abbrev pub ReadsWholeFor : Meaning → Type 0
 ReadsWholeFor nothing = ⊥
 ReadsWholeFor (command plan) = ReadsWhole false plan
+
+abbrev pub IsQuietFor : Meaning → Type 0
+IsQuietFor nothing = ⊤
+IsQuietFor (command plan) = IsQuiet false plan

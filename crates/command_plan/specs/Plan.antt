@@ -4,6 +4,7 @@ use Rattle.hex.specs.Hex.{IsBytes}
 use Rattle.command_plan.specs.Files.{limit_of}
 use Rattle.command_plan.specs.declared.fault.Input.{Input}
 use Rattle.command_plan.specs.declared.fault.Refusal.{Refusal}
+use Rattle.command_plan.specs.declared.fault.Refusal.TheVariants.{BadCapture}
 
 -- What a call does that is to answer an A.
 pub data Plan (A : Type 0) : Type 1 where
@@ -78,3 +79,29 @@ ReadsWhole asked (Refuse refusal) = ⊤
 ReadsWhole asked (Ask input path rest) = (bytes : List ℕ) → ReadsWhole true (rest bytes)
 ReadsWhole asked (Pick {X = X} P rest) = (x : X) → P x → ReadsWhole asked (rest x)
 ReadsWhole asked (Say lines rest) = ReadsWhole asked rest
+
+-- ---- plans that read and check everything before they write
+
+-- a refusal of a capture, whose whole records have their lines
+abbrev pub IsOfCapture : Refusal → Type 0
+IsOfCapture (BadCapture fault) = ⊤
+IsOfCapture refusal = ⊥
+
+-- where lines were said before, a capture alone may be refused
+abbrev pub MayRefuse : Bool → Refusal → Type 0
+MayRefuse false refusal = ⊤
+MayRefuse true refusal = IsOfCapture refusal
+
+-- and no file may be asked for
+abbrev pub MayAsk : Bool → Type 0
+MayAsk false = ⊤
+MayAsk true = ⊥
+
+-- Behind its lines the plan asks for no file, and refuses nothing but a capture. The test says whether lines were said
+-- before.
+unfoldable pub IsQuiet : {A : Type 0} → Bool → Plan A → Type 0
+IsQuiet said (Done x) = ⊤
+IsQuiet said (Refuse refusal) = MayRefuse said refusal
+IsQuiet said (Ask input path rest) = MayAsk said × ((bytes : List ℕ) → IsQuiet said (rest bytes))
+IsQuiet said (Pick {X = X} P rest) = (x : X) → P x → IsQuiet said (rest x)
+IsQuiet said (Say lines rest) = IsQuiet true rest

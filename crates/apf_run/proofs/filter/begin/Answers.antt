@@ -12,9 +12,9 @@ returns-in_err-filtering-clause-begun g c =
     rw (p.1, p.2) (
       [],
       writes_seen _ _ _ (sinking (g.O.Sink.held c.args.out.now) (g.O.Sink.faults c.args.out.now)) (sinking (g.O.Sink.held c.begin.new.out) (g.O.Sink.faults c.begin.new.out)) _
-      (g.met.O.Lines.seen_is c.args.out.now) (g.met.O.Lines.seen_is c.begin.new.out)
-      (begin_fails c.args.script c.requires.sound _ _ e.faults c.in_err-filtering.field-0.0
-      (λ w. e.front (ap (λ x. Err x) w)) (λ other. e.quiet (λ w. other (err_is w))) (λ need limit w. e.too_large need limit (ap (λ x. Err x) w)) (λ lt. err_is (e.fits lt)) (λ w. e.write (ap (λ x. Err x) w))),
+          (g.met.O.Lines.seen_is c.args.out.now) (g.met.O.Lines.seen_is c.begin.new.out)
+          (begin_fails c.args.script c.requires.sound _ _ e.faults c.in_err-filtering.field-0.0
+          (λ w. e.front (ap (λ x. Err x) w)) (λ other. e.quiet (λ w. other (err_is w))) (λ need limit w. e.too_large need limit (ap (λ x. Err x) w)) (λ lt. err_is (e.fits lt)) (λ w. e.write (ap (λ x. Err x) w))),
       tt,
     )
 

@@ -1,0 +1,17 @@
+-- A shelf that may fetch every file may fetch those that words name.
+use Rattle.std.proofs.Common.{ℕ, List}
+use Rattle.command_plan.specs.Meaning.{Meaning, nothing, command, MayFetchFor}
+use Rattle.command_plan.specs.Plan.{Plan, Done, Refuse, Ask, Pick, Say, MayFetch}
+
+module _ (may : List ℕ → Type 0) (all : (name : List ℕ) → may name) where
+  fetches : {A : Type 0} (plan : Plan A) → MayFetch may plan
+  unfolding MayFetch
+  fetches (Done x) = tt
+  fetches (Refuse refusal) = tt
+  fetches (Ask input path rest) = (all path, λ bytes. fetches (rest bytes))
+  fetches (Pick P rest) = λ x has. fetches (rest x)
+  fetches (Say lines rest) = fetches rest
+
+  pub fetches_all : (m : Meaning) → MayFetchFor may m
+  fetches_all nothing = tt
+  fetches_all (command plan) = fetches plan

@@ -1,0 +1,72 @@
+use Rattle.std.proofs.Common.{◌≡◌, inl, inr, ap, sym, ◌∙◌}
+use Rattle.command_plan.specs.Status.{status_of}
+use Rattle.command_plan.proofs.Endings.{does_later, does_stands, does_complete, does_read, does_write, does_open, does_usage, does_refuse, does_quiet, does_whole}
+use Rattle.apf_run.proofs.Headline.{filtered}
+use Rattle.apf_run.proofs.top.run.Given.{Over}
+use Rattle.apf_run.proofs.top.run.Goals as goal
+use Rattle.apf_run.proofs.top.run.Goals.{in-Err, in_default}
+
+-- the status is that of the end
+status : (g : Over) (c : goal.After-status_of g) → c.status_of.result ≡ status_of c.carry_out-end.result
+status g c =
+    let end : c.match-end.end ≡ c.carry_out-end.result = elim c.match-end.branch [
+      | in-Err w ↦ w.end-is ∙ sym w.in-Err.is
+      | in_default w ↦ w.end-is
+    ] in
+    c.status_of.ensures ∙ ap status_of end
+
+pub returns-clause-filters : goal.returns-clause-filters
+returns-clause-filters g c = λ script capture words ok.
+    let s = does_stands _ _ _ _ c.carry_out-end.ensures in
+    filtered (g.H.Source.file c.args.shelf.now) _ _ script capture _ s.0 c.carry_out-end.result words (sym (status g c) ∙ ok) s.1 s.2
+
+pub returns-clause-stands : goal.returns-clause-stands
+returns-clause-stands g c =
+    let s = does_stands _ _ _ _ c.carry_out-end.ensures in
+    (c.carry_out-end.result, status g c, s.0, s.1, s.2)
+
+pub returns-clause-complete : goal.returns-clause-complete
+returns-clause-complete g c = λ faults misses out_faults.
+    elim (does_complete _ _ _ _ c.carry_out-end.ensures (record { faults = faults; misses = misses; out_faults = out_faults })) [
+      | inl lacks ↦ inl (status g c ∙ lacks)
+      | inr all ↦ inr (c.carry_out-end.result, status g c, all.0, all.1, all.2, all.3)
+    ]
+
+pub returns-clause-usage : goal.returns-clause-usage
+returns-clause-usage g c = λ is. does_usage _ _ _ _ c.carry_out-end.ensures (sym (status g c) ∙ is)
+
+pub returns-clause-refused : goal.returns-clause-refused
+returns-clause-refused g c = λ not.
+    elim (does_refuse _ _ _ _ c.carry_out-end.ensures not) [
+      | inl e ↦ inl (status g c ∙ e)
+      | inr e ↦ inr (status g c ∙ e)
+    ]
+
+pub returns-clause-read : goal.returns-clause-read
+returns-clause-read g c = λ is. does_read _ _ _ _ c.carry_out-end.ensures (sym (status g c) ∙ is)
+
+pub returns-clause-write : goal.returns-clause-write
+returns-clause-write g c = λ is. does_write _ _ _ _ c.carry_out-end.ensures (sym (status g c) ∙ is)
+
+pub returns-clause-open : goal.returns-clause-open
+returns-clause-open g c = λ is. does_open _ _ _ _ c.carry_out-end.ensures (sym (status g c) ∙ is)
+
+pub returns-clause-quiet : goal.returns-clause-quiet
+returns-clause-quiet g c = λ plan ok capture memory write.
+    let is = status g c in
+    does_quiet _ _ _ _ c.carry_out-end.ensures plan (λ e. ok (is ∙ e)) (λ e. capture (is ∙ e)) (λ e. memory (is ∙ e)) (λ e. write (is ∙ e))
+
+pub returns-clause-whole : goal.returns-clause-whole
+returns-clause-whole g c = λ is plan. does_whole _ _ _ _ c.carry_out-end.ensures (sym (status g c) ∙ is) plan
+
+pub returns-clause-faults : goal.returns-clause-faults
+returns-clause-faults g c = (does_later _ _ _ _ c.carry_out-end.ensures).faults
+
+pub returns-clause-misses : goal.returns-clause-misses
+returns-clause-misses g c = (does_later _ _ _ _ c.carry_out-end.ensures).misses
+
+pub returns-clause-out_faults : goal.returns-clause-out_faults
+returns-clause-out_faults g c = (does_later _ _ _ _ c.carry_out-end.ensures).out_faults
+
+pub returns-clause-files : goal.returns-clause-files
+returns-clause-files g c = (does_later _ _ _ _ c.carry_out-end.ensures).files
