@@ -1,21 +1,19 @@
 -- What follows from a plan that was followed.
-use Rattle.std.proofs.Common.{◌≡◌, ◌≤◌, ◌<◌, ◌⊎◌, inl, inr, ℕ, List, [], ◌∷◌, ◌++◌, length, Option, IfSome, Result, Ok, Err, refl, sym, ap, subst, ◌∙◌, arith, append-nil, Bool, true, false, IsTrue}
+use Rattle.std.proofs.Common.{◌≡◌, ◌<◌, ◌⊎◌, inl, inr, ℕ, List, [], ◌++◌, Option, Result, Ok, Err, refl, sym, ap, subst, ◌∙◌, arith, append-nil, Bool, true, false, IsTrue}
 use Rattle.std.specs.Prelude.{⊤}
 use Rattle.std.specs.List.{concat}
-use Rattle.std.specs.Io.KnownBytes.{Appends, Keeps, IsAtEnd}
-use Rattle.std.proofs.KnownBytes.{Appends-kept, Appends-nil, Appends-trans, Keeps-trans}
+use Rattle.std.specs.Io.KnownBytes.{Keeps, IsAtEnd}
+use Rattle.std.proofs.KnownBytes.{Keeps-trans}
 use Rattle.apf_base.specs.Causes.{Rose}
-use Rattle.apf_base.specs.Streams.{AppendsFront, AppendsAll}
-use Rattle.command_plan.specs.declared.fault.Input.{Input}
+use Rattle.apf_base.specs.Streams.{AppendsAll}
 use Rattle.command_plan.specs.declared.fault.Refusal.{Refusal}
 use Rattle.command_plan.specs.declared.fault.Refusal.TheVariants.{BadCapture, BadScript, BadText, Twice, Unknown, Backward, TooLong, CodeTooLong, TooLarge}
 use Rattle.command_plan.specs.declared.fault.Fault.{Fault}
 use Rattle.command_plan.specs.declared.fault.Fault.TheVariants as faults
-use Rattle.command_plan.specs.Ending.{EndsAs, MayEnd, Leaves, IsOwn, Calm}
-use Rattle.command_plan.specs.Files.{limit_of}
+use Rattle.command_plan.specs.Ending.{MayEnd, Leaves, IsOwn, Calm}
 use Rattle.command_plan.specs.Meaning.{Meaning, nothing, command, IsAccepted, Does, IsQuietFor, MayEndBy, ReadsWholeFor}
 use Rattle.command_plan.specs.Status.{status_of, refusal_status}
-use Rattle.command_plan.specs.Plan.{Plan, Done, Refuse, Ask, Pick, Say, IsQuiet, MayHold, MayRefuse, ReadsWhole}
+use Rattle.command_plan.specs.Plan.{Plan, Done, Refuse, Ask, Pick, Say, IsQuiet, MayRefuse, ReadsWhole}
 use Rattle.command_plan.specs.Follows.{Stage, Later, Idle, Rests, EndsHere, Asks, Picks, Says, Ends, Follows}
 use Rattle.command_plan.specs.Follows as f
 use Rattle.command_plan.proofs.Saying.{all_and_all, all_and_front}

@@ -1,7 +1,6 @@
 -- What a plan may open first, and behind its first step.
-use Rattle.std.proofs.Common.{◌≡◌, ◌≤◌, ℕ, List, length, sym, Option, None, Result, Ok, Err, subst}
+use Rattle.std.proofs.Common.{◌≡◌, ◌≤◌, ℕ, List, length, sym, None, Ok, subst}
 use Rattle.command_plan.specs.declared.fault.Input.{Input}
-use Rattle.command_plan.specs.declared.fault.Fault.{Fault}
 use Rattle.command_plan.specs.declared.fault.Fault.TheVariants as faults
 use Rattle.command_plan.specs.declared.fault.Refusal.TheVariants.{TooLong}
 use Rattle.command_plan.specs.Files.{limit_of}

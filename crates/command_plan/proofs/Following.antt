@@ -1,5 +1,5 @@
 -- How a call that follows a plan is put together from its steps.
-use Rattle.std.proofs.Common.{◌≡◌, ◌<◌, ℕ, List, length, Option, IfSome, Result, Ok, Err, sym, ap, subst, ◌∙◌}
+use Rattle.std.proofs.Common.{◌≡◌, ◌<◌, ℕ, List, length, Result, Ok, Err, ap, subst, ◌∙◌}
 use Rattle.std.specs.List.{concat}
 use Rattle.std.specs.Result.{IsErrAnd}
 use Rattle.std.proofs.lemmas.Result.{err_from_is_err_and}
@@ -9,7 +9,7 @@ use Rattle.command_plan.specs.declared.fault.Refusal.{Refusal}
 use Rattle.command_plan.specs.declared.fault.Refusal.TheVariants.{TooLong}
 use Rattle.command_plan.specs.declared.fault.Fault.{Fault}
 use Rattle.command_plan.specs.declared.fault.Fault.TheVariants as faults
-use Rattle.command_plan.specs.Plan.{Plan, Done, Refuse, Ask, Pick, Say, MayHold, ◌>>=◌, picks, says}
+use Rattle.command_plan.specs.Plan.{Plan, Done, Refuse, Ask, Pick, Say, MayHold, ◌>>=◌, picks}
 use Rattle.command_plan.specs.Follows.{Stage, Later, Idle, Rests, EndsHere, Asks, Picks, Says, Ends, Follows}
 use Rattle.command_plan.specs.Follows as f
 use Rattle.command_plan.proofs.Stages.{later_trans, idle_refl, idle_trans, rests_refl, rests_trans, rose_before, told_before, Appends-before, front_before, first_before, none_first, ends_before, ends_as, no_fault, same_fault}

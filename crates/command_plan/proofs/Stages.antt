@@ -4,7 +4,7 @@ use Rattle.std.specs.Io.KnownBytes.{Appends, Keeps}
 use Rattle.std.proofs.KnownBytes.{Appends-kept, Appends-nil, Keeps-refl, Keeps-trans}
 use Rattle.apf_base.specs.Causes.{Rose}
 use Rattle.std.specs.List.{concat}
-use Rattle.apf_base.specs.Streams.{AppendsFront, AppendsAll}
+use Rattle.apf_base.specs.Streams.{AppendsFront}
 use Rattle.command_plan.specs.Lines.{AppendsFirst}
 use Rattle.command_plan.specs.declared.fault.Fault.{Fault}
 use Rattle.command_plan.specs.Follows.{Stage, Later, Idle, Rests, EndsHere}

@@ -1,5 +1,5 @@
 -- What a command does, as a tree.
-use Rattle.std.specs.Prelude.{◌≡◌, ℕ, ◌≤◌, List, [], ◌∷◌, length, Option, IfSome, Result, Ok, Err, ⊤, Bool, true, false, IsTrue}
+use Rattle.std.specs.Prelude.{◌≡◌, ℕ, ◌≤◌, List, length, Option, IfSome, ⊤, Bool, true, false, IsTrue}
 use Rattle.hex.specs.Hex.{IsBytes}
 use Rattle.command_plan.specs.Files.{limit_of}
 use Rattle.command_plan.specs.declared.fault.Input.{Input}

@@ -1,9 +1,8 @@
-use Rattle.std.proofs.Common.{◌≡◌, ◌<◌, ◌≤◌, ◌+◌, ◌++◌, [], ◌∷◌, ℕ, List, length, map, take, get_or, ap, sym, ◌∙◌, append-nil, rules}
-use Rattle.std.specs.List.{concat, flat_map}
+use Rattle.std.proofs.Common.{◌≡◌, ◌<◌, ◌+◌, ◌++◌, [], ◌∷◌, ℕ, List, length, map, take, get_or, ap, sym, ◌∙◌, append-nil, rules}
+use Rattle.std.specs.List.{concat}
 use Rattle.std.proofs.lemmas.Grind.{take_at_read}
 use Rattle.std.proofs.lemmas.List.{take_all, map-append}
 use Rattle.std.proofs.lemmas.List.Folds.{concat-append}
-use Rattle.made_input.specs.MadeScripts.{opening, ended}
 use Rattle.made_input.proofs.script.opening_text.Goals as goal
 
 one_more : {P : Type 0} (f : P → List ℕ) (list : List P) (i : ℕ) (d : P) (text line after : List ℕ) → i < length list → text ≡ concat (map f (take i list)) → line ≡ f (get_or list i d)
