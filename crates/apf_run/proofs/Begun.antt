@@ -1,5 +1,5 @@
 -- How `filter` begins: the first install.
-use Rattle.std.proofs.Common.{◌≡◌, ◌≤◌, ◌<◌, ℕ, List, [], ◌∷◌, ◌++◌, Bool, true, false, cond, ltb, Option, None, Some, Result, Ok, Err, refl, sym, ap, subst, ◌∙◌, arith, inl, inr, append-nil}
+use Rattle.std.proofs.Common.{◌≡◌, ◌≤◌, ◌<◌, ℕ, List, [], ◌∷◌, ◌++◌, Bool, true, false, cond, ltb, Option, None, Some, Result, Ok, Err, refl, sym, ap, subst, ◌∙◌, arith, inl, inr}
 use Rattle.std.specs.List.{concat}
 use Rattle.std.specs.Io.KnownBytes.{Keeps}
 use Rattle.std.proofs.lemmas.Bool.{cases_lt, le-ltb, lt-ltb}
@@ -26,7 +26,7 @@ use Rattle.command_plan.specs.Follows.{Shelving, Sinking, Stage, Later, Follows,
 use Rattle.command_plan.specs.Plan.{Plan, Done, picks, says, unless, ◌>>=◌}
 use Rattle.command_plan.proofs.Following.{before, done, fails, lacks, then_on, then_pick}
 use Rattle.command_plan.proofs.Saying.{all_said, front_of_more}
-use Rattle.command_plan.proofs.Texts.{end_of, ended, front_said}
+use Rattle.command_plan.proofs.Texts.{ended, front_said}
 use Rattle.apf_run.specs.Filter.{HasBegun, IsFirst, begins, room_refusal}
 use Rattle.apf_run.proofs.Replaying.{first_lines}
 

@@ -1,6 +1,6 @@
 -- Where `filter` ends well, the report of its script over its capture was written.
-use Rattle.std.proofs.Common.{◌≡◌, ◌⊎◌, inl, inr, ℕ, List, [], ◌∷◌, ◌++◌, Bool, true, false, cond, codes, Option, None, Some, IfSome, Result, Ok, Err, refl, sym, ap, subst, ◌∙◌, append-nil}
-use Rattle.std.specs.List.{concat, list_all}
+use Rattle.std.proofs.Common.{◌≡◌, inl, inr, ℕ, List, [], ◌∷◌, ◌++◌, Bool, true, false, cond, codes, Option, None, Some, IfSome, Result, Ok, Err, sym, ap, subst, ◌∙◌, append-nil}
+use Rattle.std.specs.List.{list_all}
 use Rattle.std.specs.Prelude.{option_and_then}
 use Rattle.apf_base.specs.Streams.{AppendsAll}
 use Rattle.command_line.specs.Lines.{Line, is_plain, line_of, usage_of}
@@ -18,7 +18,7 @@ use Rattle.script_text.specs.declared.script_error.ScriptError.TheVariants as sc
 use Rattle.command_plan.specs.Ending.{EndsAs, MayEnd, Leaves}
 use Rattle.command_plan.specs.Files.{input}
 use Rattle.command_plan.specs.Meaning.{MayEndBy}
-use Rattle.command_plan.specs.Plan.{Plan, Done, MayHold, ◌>>=◌, asks, picks, says, texts, unless}
+use Rattle.command_plan.specs.Plan.{Plan, Done, ◌>>=◌, asks, picks, says, texts, unless}
 use Rattle.command_plan.specs.Status.{status_of}
 use Rattle.command_plan.specs.declared.fault.FileKind.TheVariants as files
 use Rattle.command_plan.specs.declared.fault.Refusal.{Refusal}
@@ -26,7 +26,7 @@ use Rattle.command_plan.specs.declared.fault.Fault.{Fault}
 use Rattle.command_plan.proofs.Endings.{ended_well}
 use Rattle.apf_run.specs.Commands.{meaning_for, meaning_of}
 use Rattle.apf_run.specs.Exec.{refusal_by}
-use Rattle.apf_run.specs.Filter.{IsFiltered, IsFirst, TellsAll, begins, filter_plan, filters, reads_script, replays, room_refusal, says_something}
+use Rattle.apf_run.specs.Filter.{IsFiltered, IsFirst, TellsAll, filter_plan, filters, replays, room_refusal, says_something}
 
 -- an answer is no fault
 no_answer : {A P : Type 0} (fault : Fault) (lines : List (List ℕ)) (x : A) → EndsAs {A = A} (Err fault) lines (Ok x) → P

@@ -1,7 +1,6 @@
 -- The lines of a replay that broke off can be completed to those that are defined.
-use Rattle.std.proofs.Common.{◌≡◌, ◌≤◌, ◌<◌, ◌+◌, ℕ, List, [], ◌∷◌, ◌++◌, length, length-drop, drop, map, All, Bool, true, false, cond, ltb, ◌&&◌, Option, None, Some, Result, Ok, Err, IfSome, refl, ap, subst, ◌∙◌, arith, suc, zero}
-use Rattle.std.specs.Prelude.{slice_index, ⊤}
-use Rattle.std.proofs.lemmas.Bool.{ltb-true}
+use Rattle.std.proofs.Common.{◌≡◌, ◌≤◌, ◌+◌, ℕ, List, [], ◌∷◌, ◌++◌, length, length-drop, drop, map, All, Bool, true, ltb, Option, None, Some, Result, Ok, Err, refl, ap, subst, ◌∙◌, arith, suc, zero}
+use Rattle.std.specs.Prelude.{⊤}
 use Rattle.std.proofs.lemmas.List.Elements.{All-head, All-tail, All-nil, All-cons}
 use Rattle.apf_coding.proofs.Numbers.{AreBytes-take, AreBytes-drop}
 use Rattle.apf_generate.proofs.Existing.{program_exists}

@@ -1,6 +1,5 @@
 -- The lines behind the first install: what a filter leaves that took a capture's records, and how that goes by the plan.
-use Rattle.std.proofs.Common.{◌≡◌, ℕ, List, [], ◌∷◌, ◌++◌, map, fold, Option, None, Some, Result, Ok, Err, refl, sym, subst}
-use Rattle.std.specs.List.{concat}
+use Rattle.std.proofs.Common.{◌≡◌, ℕ, List, [], ◌∷◌, ◌++◌, map, fold, Option, None, Some, Ok, Err, refl, subst}
 use Rattle.apf_base.specs.Causes.{Rose}
 use Rattle.pcap_files.specs.Capture.{capture, frame_of}
 use Rattle.pcap_files.specs.declared.fault.PcapError.{PcapError}
@@ -17,7 +16,6 @@ use Rattle.filter_report.specs.Report.{Leads, Tells, ended}
 use Rattle.filter_report.specs.declared.fault.ReportFault.{ReportFault}
 use Rattle.filter_report.specs.declared.fault.ReportFault.TheVariants as reports
 use Rattle.command_plan.specs.declared.fault.Fault.{Fault}
-use Rattle.command_plan.specs.declared.fault.Fault.TheVariants as faults
 use Rattle.command_plan.specs.Follows.{Stage, Later, Follows}
 use Rattle.command_plan.specs.Plan.{texts}
 use Rattle.command_plan.proofs.Texts.{end_of, wrote_all, wrote_first, wrote_front}

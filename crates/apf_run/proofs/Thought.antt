@@ -1,5 +1,5 @@
 -- What is worked out between reading and writing goes by its part of the plan.
-use Rattle.std.proofs.Common.{◌≡◌, ◌≤◌, ◌<◌, ◌⊎◌, inl, inr, ℕ, List, length, Bool, true, false, cond, ltb, Option, None, Some, Result, Ok, Err, IfOk, OnOk, IfErr, refl, sym, ap, subst, ◌∙◌}
+use Rattle.std.proofs.Common.{◌≡◌, ◌≤◌, ◌<◌, ◌⊎◌, inl, inr, ℕ, List, Bool, true, false, cond, ltb, Option, None, Some, Result, Ok, Err, refl, sym, ap, subst, ◌∙◌}
 use Rattle.std.proofs.lemmas.Bool.{le-ltb, lt-ltb}
 use Rattle.apf_asm.specs.declared.item.Item.{Item}
 use Rattle.apf_asm.specs.declared.item.AsmError.{AsmError}
@@ -20,7 +20,7 @@ use Rattle.command_plan.specs.declared.fault.Refusal.TheVariants.{BadScript, Twi
 use Rattle.command_plan.specs.declared.fault.Fault.{Fault}
 use Rattle.command_plan.specs.declared.fault.Fault.TheVariants as faults
 use Rattle.command_plan.specs.Follows.{Stage, Follows, Thinks}
-use Rattle.command_plan.specs.Plan.{Plan, Done, picks, unless, ◌>>=◌}
+use Rattle.command_plan.specs.Plan.{Done, picks, unless, ◌>>=◌}
 use Rattle.command_plan.proofs.Following.{done, fails, picked, refused, then_on}
 use Rattle.command_plan.proofs.Texts.{ended}
 use Rattle.apf_run.specs.Asm.{accepts, assembles}

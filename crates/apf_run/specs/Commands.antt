@@ -1,5 +1,5 @@
 -- What words mean: the commands, each by its name and the words that follow it.
-use Rattle.std.specs.Prelude.{ℕ, List, codes, Option, None, Some}
+use Rattle.std.specs.Prelude.{◌≡◌, ◌∷◌, ℕ, List, codes, Option, None, Some}
 use Rattle.command_line.specs.Lines.{Line, Further, one, two, three, four, split_of}
 use Rattle.command_plan.specs.Meaning.{Meaning, nothing, command, named}
 use Rattle.apf_run.specs.Asm.{asm_plan}
@@ -22,3 +22,7 @@ meaning_for (Some line) = meaning_by line.name line.further
 -- `live` is another call's
 abbrev pub meaning_of : List (List ℕ) → Meaning
 meaning_of words = meaning_for (split_of words)
+
+-- the first word is this name
+abbrev pub IsNamed : List ℕ → List (List ℕ) → Type 0
+IsNamed name words = (further : List (List ℕ)) × (words ≡ name ∷ further)

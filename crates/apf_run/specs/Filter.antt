@@ -1,5 +1,5 @@
 -- `filter`: the report of a script over a capture.
-use Rattle.std.specs.Prelude.{◌≡◌, ℕ, ◌≤◌, List, [], ◌∷◌, nat_lt, if◌then◌else◌, Option, None, Some, Result, Ok, Err}
+use Rattle.std.specs.Prelude.{ℕ, ◌≤◌, List, [], ◌∷◌, nat_lt, if◌then◌else◌, Option, None, Some, Result, Ok, Err}
 use Rattle.apf_base.specs.Streams.{AppendsAll}
 use Rattle.policy_state.specs.declared.basis.Script.{Script}
 use Rattle.policy_state.specs.States.{start}
@@ -7,7 +7,7 @@ use Rattle.apf_generate.specs.Ranges.{IsScript}
 use Rattle.size_fit.specs.Sizes.{base, limit_of}
 use Rattle.script_text.specs.declared.script_error.ScriptError.{ScriptError}
 use Rattle.script_text.specs.declared.script_error.ScriptError.TheVariants as scripts
-use Rattle.script_text.specs.ScriptLines.{Contents, contents_of}
+use Rattle.script_text.specs.ScriptLines.{Contents}
 use Rattle.script_text.specs.Scripts.{IsScriptText}
 use Rattle.script_text.specs.ScriptReading.{script_answer}
 use Rattle.pcap_files.specs.Capture.{capture}

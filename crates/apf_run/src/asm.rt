@@ -70,7 +70,8 @@ pub fn asm<H: Files, O: Lines>(
     out: &mut O,
 ) -> Result<(), Fault>
     requires { MayFetch H.may (asm_plan text.now) }
-    ensures { Follows (asm_plan text.now) (stage (H.seen shelf.old) (O.seen out.old)) (stage (H.seen shelf.new) (O.seen out.new)) result }
+    ensures { Follows (asm_plan text.now) (stage (H.seen shelf.old) (O.seen out.old))
+        (stage (H.seen shelf.new) (O.seen out.new)) result }
 {
     let bytes = shelf.ask(alloc, text, TEXT)?;
     let code = assembled(alloc, bytes.as_slice())?;

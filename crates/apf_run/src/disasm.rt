@@ -42,7 +42,8 @@ pub fn disasm<H: Files, O: Lines>(
     out: &mut O,
 ) -> Result<(), Fault>
     requires { MayFetch H.may (disasm_plan program.now) }
-    ensures { Follows (disasm_plan program.now) (stage (H.seen shelf.old) (O.seen out.old)) (stage (H.seen shelf.new) (O.seen out.new)) result }
+    ensures { Follows (disasm_plan program.now) (stage (H.seen shelf.old) (O.seen out.old))
+        (stage (H.seen shelf.new) (O.seen out.new)) result }
 {
     let code = shelf.ask(alloc, program, PROGRAM)?;
     write_listing(alloc, code.as_slice(), out)

@@ -43,7 +43,8 @@ fn script_of(alloc: Global, text: &[u8]) -> Result<Script, Fault>
 fn begin<O: Lines>(alloc: Global, script: Script, out: &mut O) -> Result<Filtering, Fault>
     requires sound { IsScript script }
     requires few_events { length script.events < 2 ^ 32 }
-    ensures begun { (line : Items ℕ) × Writes (begins script) (O.seen out.old) (O.seen out.new) (answer (λ _. line) result)
+    ensures begun { (line : Items ℕ)
+        × Writes (begins script) (O.seen out.old) (O.seen out.new) (answer (λ _. line) result)
         × IfOk result (λ f. HasBegun script f (line ∷ [])) }
     ensures none { IfOk result (λ f. f.frames ≡ 0) }
 {
@@ -85,7 +86,8 @@ fn filter_by<H: Files, O: Lines>(
     requires may { MayFetch H.may (filters script capture.now) }
     requires sound { IsScript script }
     requires few_events { length script.events < 2 ^ 32 }
-    ensures { Follows (filters script capture.now) (stage (H.seen shelf.old) (O.seen out.old)) (stage (H.seen shelf.new) (O.seen out.new)) result }
+    ensures { Follows (filters script capture.now) (stage (H.seen shelf.old) (O.seen out.old))
+        (stage (H.seen shelf.new) (O.seen out.new)) result }
 {
     let filtering = begin(alloc, script, out)?;
     let bytes = shelf.ask(alloc, capture, CAPTURE)?;
@@ -104,7 +106,8 @@ pub fn filter<H: Files, O: Lines>(
     out: &mut O,
 ) -> Result<(), Fault>
     requires { MayFetch H.may (filter_plan script.now capture.now) }
-    ensures { Follows (filter_plan script.now capture.now) (stage (H.seen shelf.old) (O.seen out.old)) (stage (H.seen shelf.new) (O.seen out.new)) result }
+    ensures { Follows (filter_plan script.now capture.now) (stage (H.seen shelf.old) (O.seen out.old))
+        (stage (H.seen shelf.new) (O.seen out.new)) result }
 {
     let text = shelf.ask(alloc, script, SCRIPT)?;
     let script = script_of(alloc, text.as_slice())?;

@@ -94,7 +94,8 @@ fn write_opening<O: Lines>(out: &mut O) -> Result<(), Fault>
 // Writes the lines of so many changes of the doze.
 fn write_changes<O: Lines>(alloc: Global, changes: u32, out: &mut O) -> Result<(), Fault>
     requires { changes ≤ 10000 }
-    ensures { Writes (says (map (λ j. ended (doze_line j)) (range_with_len 1 changes))) (O.seen out.old) (O.seen out.new) result }
+    ensures { Writes (says (map (λ j. ended (doze_line j)) (range_with_len 1 changes)))
+        (O.seen out.old) (O.seen out.new) result }
 {
     for j in 1..changes + 1 {
         let line = doze_line(alloc, j)?;
@@ -158,7 +159,8 @@ fn write_made<O: Lines>(alloc: Global, values: &MadeWords, out: &mut O) -> Resul
 /// Writes the made script of a number, a line a piece; the made capture, its header and each record a piece; or the last
 /// lines of the report of both, which are the counters that aren't 0 and the totals.
 pub fn make<O: Lines>(alloc: Global, what: &str, n: &str, out: &mut O) -> Result<(), Fault>
-    ensures { (shelf : Shelving) → Does (make_meaning what.now n.now) (stage shelf (O.seen out.old)) (stage shelf (O.seen out.new)) result }
+    ensures { (shelf : Shelving) → Does (make_meaning what.now n.now)
+        (stage shelf (O.seen out.old)) (stage shelf (O.seen out.new)) result }
 {
     match made_words(what, n) {
         Some(values) => write_made(alloc, &values, out),

@@ -79,7 +79,8 @@ pub fn program<O: Lines>(
     flags: &str,
     out: &mut O,
 ) -> Result<(), Fault>
-    ensures { (shelf : Shelving) → Does (program_meaning mac.now capacity.now address.now flags.now) (stage shelf (O.seen out.old)) (stage shelf (O.seen out.new)) result }
+    ensures { (shelf : Shelving) → Does (program_meaning mac.now capacity.now address.now flags.now)
+        (stage shelf (O.seen out.old)) (stage shelf (O.seen out.new)) result }
 {
     match program_words(mac, capacity, address, flags) {
         Some(values) => write_program(alloc, &values, out),

@@ -1,4 +1,4 @@
-use Rattle.std.proofs.Common.{arith, map, sym}
+use Rattle.std.proofs.Common.{arith, map}
 use Rattle.apf_disasm.specs.Listing.{entry_of, IsListing}
 use Rattle.apf_disasm.specs.Printing.{line_text}
 use Rattle.command_plan.proofs.Following.{then_pick}

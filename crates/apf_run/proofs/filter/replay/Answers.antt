@@ -10,14 +10,13 @@ use Rattle.filter_report.specs.Arrivals.{arrivals_of}
 use Rattle.filter_report.specs.Faults.{fault_of}
 use Rattle.filter_report.specs.Lines.{Adds, BreaksOff}
 use Rattle.filter_report.specs.Report.{Leads, Tells, ended}
-use Rattle.command_plan.specs.Follows.{Follows, Shelving, Sinking, stage, sinking}
+use Rattle.command_plan.specs.Follows.{Follows, stage, sinking}
 use Rattle.command_plan.specs.Plan.{texts}
 use Rattle.command_plan.specs.declared.fault.Fault.{Fault}
 use Rattle.command_plan.proofs.Following.{lacks_by}
 use Rattle.command_plan.proofs.Texts.{end_of, writes_seen}
 use Rattle.apf_run.specs.Exec.{refusal_by}
 use Rattle.apf_run.specs.Filter.{TellsAll}
-use Rattle.apf_run.proofs.Begun.{err_is}
 use Rattle.apf_run.proofs.Reported.{records_break, capture_refused, ending_breaks, all_reported}
 use Rattle.apf_run.proofs.Replaying.{capture_few}
 use Rattle.apf_run.proofs.filter.replay.Goals as goal

@@ -1,7 +1,9 @@
 use Rattle.std.proofs.Common.{◌≡◌, inl, inr, ap, sym, ◌∙◌}
+use Rattle.command_line.specs.Lines.{texts}
 use Rattle.command_plan.specs.Status.{status_of}
-use Rattle.command_plan.proofs.Endings.{does_later, does_stands, does_complete, does_read, does_write, does_open, does_usage, does_refuse, does_quiet, does_whole}
+use Rattle.command_plan.proofs.Endings.{does_later, does_stands, does_complete, does_read, does_write, does_open, does_usage, does_refuse}
 use Rattle.apf_run.proofs.Headline.{filtered}
+use Rattle.apf_run.proofs.Quiet.{keeps_early, reads_all}
 use Rattle.apf_run.proofs.top.run.Given.{Over}
 use Rattle.apf_run.proofs.top.run.Goals as goal
 use Rattle.apf_run.proofs.top.run.Goals.{in-Err, in_default}
@@ -52,12 +54,14 @@ pub returns-clause-open : goal.returns-clause-open
 returns-clause-open g c = λ is. does_open _ _ _ _ c.carry_out-end.ensures (sym (status g c) ∙ is)
 
 pub returns-clause-quiet : goal.returns-clause-quiet
-returns-clause-quiet g c = λ plan ok capture memory write.
+returns-clause-quiet g c = λ ok capture memory write none.
     let is = status g c in
-    does_quiet _ _ _ _ c.carry_out-end.ensures plan (λ e. ok (is ∙ e)) (λ e. capture (is ∙ e)) (λ e. memory (is ∙ e)) (λ e. write (is ∙ e))
+    keeps_early (texts c.args.words.now) _ _ c.carry_out-end.result (record { ok = λ e. ok (is ∙ e); capture = λ e. capture (is ∙ e); memory = λ e. memory (is ∙ e); write = λ e. write (is ∙ e) })
+    (λ named. let n = none named in (λ e. n.0 (is ∙ e), λ e. n.1 (is ∙ e), λ e. n.2 (is ∙ e))) c.carry_out-end.ensures
 
 pub returns-clause-whole : goal.returns-clause-whole
-returns-clause-whole g c = λ is plan. does_whole _ _ _ _ c.carry_out-end.ensures (sym (status g c) ∙ is) plan
+returns-clause-whole g c = λ is no_program no_make.
+    reads_all (texts c.args.words.now) _ _ c.carry_out-end.result (sym (status g c) ∙ is) no_program no_make c.carry_out-end.ensures
 
 pub returns-clause-faults : goal.returns-clause-faults
 returns-clause-faults g c = (does_later _ _ _ _ c.carry_out-end.ensures).faults
