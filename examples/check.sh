@@ -1,6 +1,7 @@
 #!/usr/bin/env bash
 # Runs each command that the README and docs/ print with its output, and compares. Wants Python 3. `./try` stands for the
-# proved program where it is newer than all sources, and compiles one else.
+# proved program where it is newer than all sources, and compiles one else. Then docs/TRUSTED.md is compared with the
+# definitions that the headline reaches.
 set -eu
 top=$(cd "$(dirname "$0")/.." && pwd)
 folder=$(mktemp -d)
@@ -30,3 +31,4 @@ if failed:
     sys.exit(f"{failed} examples don't print what they should")
 print("the examples print what they should")
 PYTHON
+python3 "$top/examples/trusted.py"

@@ -6,7 +6,8 @@ use Rattle.apf_asm.specs.declared.item.Fixed.{Fixed}
 use Rattle.std.proofs.lemmas.List.{length-append, drop_more, drop_all}
 use Rattle.std.proofs.lemmas.List.Elements.{All-head, All-tail}
 use Rattle.apf_coding.specs.Words.{big_endian}
-use Rattle.apf_coding.specs.Instruction.{Instruction, spelling, second_of, counted_of, has_second, is_counted, IsWidth}
+use Rattle.apf_coding.specs.Instruction.{Instruction, has_second, is_counted}
+use Rattle.apf_coding.specs.Spelling.{spelling, second_of, counted_of, IsWidth}
 use Rattle.apf_coding.proofs.Numbers.{length-big_endian}
 use Rattle.apf_asm.specs.declared.item.Item.{Item}
 use Rattle.apf_asm.specs.declared.item.Item.TheVariants as items

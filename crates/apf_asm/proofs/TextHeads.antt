@@ -9,7 +9,8 @@ use Rattle.std.proofs.Math.Seq.{drop-cons}
 use Rattle.std.proofs.lemmas.List.{take_at, drop_all, take-append-drop, length-append, get_or-append-add, append_assoc}
 use Rattle.apf_coding.specs.declared.instruction.Op.{Op}
 use Rattle.apf_coding.specs.declared.instruction.Op.TheVariants.{Ldb, Ldh, Ldw, Ldbx, Ldhx, Ldwx, Add, Mul, Div, And, Or, Sh, Li, Jmp, Jeq, Jne, Jgt, Jlt, Jset, Jnebs, Ext, Lddw, Stdw}
-use Rattle.apf_coding.specs.Instruction.{IsWidth, is_conditional, all_ops}
+use Rattle.apf_coding.specs.Instruction.{is_conditional, all_ops}
+use Rattle.apf_coding.specs.Spelling.{IsWidth}
 use Rattle.apf_coding.specs.Names.{name_of}
 use Rattle.apf_coding.specs.Reading.{◌>>=◌}
 use Rattle.apf_coding.proofs.Fields.{bind_some, some_is}
@@ -18,7 +19,8 @@ use Rattle.apf_asm.specs.declared.text_head.Head.TheVariants as heads
 use Rattle.apf_asm.specs.TextForms.{dotted_word, is_load, is_arithmetic, is_signed, IsWord}
 use Rattle.apf_asm.specs.TextReading.{number_of, op_named, width_of, op_head, other_head, head_from, dotted_head, is_label_word, is_dotted_word, head_of}
 use Rattle.apf_asm.proofs.TextNumbers.{number_of_is, number_of-decimal}
-use Rattle.apf_asm.proofs.TextWords.{equal_words, chosen}
+use Rattle.plain_text.proofs.Words.{equal_words}
+use Rattle.apf_asm.proofs.TextWords.{chosen}
 
 -- a word that says so of the line
 abbrev pub IsHead : Head → List ℕ → Type 0

@@ -1,9 +1,10 @@
 -- Lower-case digits are the text of the bytes that they decode to.
-use Rattle.std.proofs.Common.{◌≡◌, ℕ, suc, ◌+◌, ◌*◌, ◌/◌, ◌%◌, ◌<◌, Bool, true, false, ◌&&◌, ◌||◌, eqb, ltb, List, [], ◌∷◌, length, slice_index, Option, Some, None, Result, Ok, Err, refl, sym, ap, subst, ◌∙◌, arith}
+use Rattle.std.proofs.Common.{◌≡◌, ℕ, suc, ◌+◌, ◌*◌, ◌/◌, ◌%◌, ◌<◌, Bool, true, false, ◌||◌, List, [], ◌∷◌, length, slice_index, Option, Some, None, Result, Ok, Err, refl, sym, ap, ◌∙◌, arith}
 use Rattle.std.specs.List.{list_any}
 use Rattle.std.specs.Result.{result_unwrap_or}
-use Rattle.std.proofs.lemmas.Bool.{agree_below_at, and_parts, or_parts, eqb-true, ltb-true}
+use Rattle.std.proofs.lemmas.Bool.{agree_below_at, or_parts}
 use Rattle.std.proofs.lemmas.Bool.Decides.{nat_tests}
+use Rattle.plain_text.proofs.Digits.{told_of, told_at}
 use Rattle.hex.specs.declared.error.FromHexError.{FromHexError}
 use Rattle.hex.specs.Hex.{◌>>=◌, hex_digit_value, digit_or_error, value_at, pair_value, decode_pairs, decode_of, encode_with, encode_lower, lower_digits, IsBytes}
 use Rattle.hex.proofs.HexLemmas.{decode_of-ok, decode_of-even}
@@ -16,21 +17,8 @@ bind_ok (Err e) f y h = absurd cc
 
 -- ---- a digit
 
--- the table has the code at its value
-told_of : ℕ → Option ℕ → Bool
-told_of c None = true
-told_of c (Some v) = eqb (slice_index lower_digits v) c && ltb v 16
-
 abbrev told : ℕ → Bool
 told c = is_upper c || told_of c (hex_digit_value c)
-
-told_at : (c v : ℕ) (o : Option ℕ) → o ≡ Some v → told_of c o ≡ true → (slice_index lower_digits v ≡ c) × (v < 16)
-unfolding told_of
-told_at c v None e t = absurd cc
-told_at c v (Some w) e t =
-    let same : w ≡ v = cc in
-    let parts = and_parts (eqb (slice_index lower_digits w) c) (ltb w 16) t in
-    subst (λ (x : ℕ). (slice_index lower_digits x ≡ c) × (x < 16)) same (eqb-true _ _ parts.0, ltb-true _ _ parts.1)
 
 small : (c v : ℕ) → hex_digit_value c ≡ Some v → c < 103
 small c v e = grind (arith, nat_tests)

@@ -12,7 +12,8 @@ use Rattle.std.proofs.lemmas.Fmt.{decimal_digit, decimal_nonempty, digits_decima
 use Rattle.hex.specs.Hex.{IsBytes}
 use Rattle.apf_coding.specs.declared.instruction.Op.{Op}
 use Rattle.apf_coding.specs.declared.instruction.Op.TheVariants.{Ldb, Ldh, Ldw, Ldbx, Ldhx, Ldwx, Add, Mul, Div, And, Or, Sh, Li, Jmp, Jeq, Jne, Jgt, Jlt, Jset, Jnebs, Ext, Lddw, Stdw}
-use Rattle.apf_coding.specs.Instruction.{Instruction, IsWidth, IsWellFormed, is_conditional, is_counted, has_second}
+use Rattle.apf_coding.specs.Instruction.{Instruction, is_conditional, is_counted, has_second}
+use Rattle.apf_coding.specs.Spelling.{IsWidth, IsWellFormed}
 use Rattle.apf_coding.specs.Names.{name_of}
 use Rattle.apf_coding.specs.Reading.{◌>>=◌}
 use Rattle.apf_coding.proofs.Fields.{bind_some, some_is}

@@ -6,7 +6,8 @@ use Rattle.std.specs.List.{list_all, AllPass}
 use Rattle.std.specs.Option.{option_to_list}
 use Rattle.std.proofs.lemmas.List.Sums.{AllPass-from_list_all, list_all-from_AllPass}
 use Rattle.hex.specs.Hex.{IsBytes}
-use Rattle.apf_coding.specs.Instruction.{Instruction, IsWellFormed}
+use Rattle.apf_coding.specs.Instruction.{Instruction}
+use Rattle.apf_coding.specs.Spelling.{IsWellFormed}
 use Rattle.apf_asm.specs.declared.item.Item.{Item}
 use Rattle.apf_asm.specs.declared.item.Target.TheVariants as targets
 use Rattle.apf_asm.specs.declared.text_error.TextKind.{TextKind}

@@ -8,8 +8,9 @@ use Rattle.std.proofs.lemmas.List.{length-append}
 use Rattle.std.proofs.lemmas.List.Elements.{All-nil, All-cons, All-append}
 use Rattle.apf_coding.specs.declared.instruction.Op.{Op}
 use Rattle.apf_coding.specs.declared.instruction.Op.TheVariants.{Ldb, Ldh, Ldw, Ldbx, Ldhx, Ldwx, Add, Mul, Div, And, Or, Sh, Li, Jmp, Jeq, Jne, Jgt, Jlt, Jset, Jnebs, Ext, Lddw, Stdw}
-use Rattle.apf_coding.specs.Words.{least_unsigned, least_signed}
-use Rattle.apf_coding.specs.Instruction.{IsWidth, is_conditional, is_counted, has_second}
+use Rattle.apf_coding.specs.Widths.{least_unsigned, least_signed}
+use Rattle.apf_coding.specs.Instruction.{is_conditional, is_counted, has_second}
+use Rattle.apf_coding.specs.Spelling.{IsWidth}
 use Rattle.apf_coding.specs.Jumps.{is_jump}
 use Rattle.apf_coding.proofs.Widths.{least-width, wider}
 use Rattle.apf_asm.specs.declared.item.Target.{Target}

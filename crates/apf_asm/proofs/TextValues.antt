@@ -3,7 +3,7 @@ use Rattle.std.proofs.Common.{◌≡◌, ℕ, suc, ◌+◌, ◌-◌, ◌*◌, �
 use Rattle.std.specs.Prelude.{ℤ, pos, negsuc, FitsSigned}
 use Rattle.std.specs.Int.{w32, cast_unsigned}
 use Rattle.std.proofs.lemmas.Bool.{eqb-true, ltb-true, lt-ltb, le-ltb}
-use Rattle.apf_coding.specs.Words.{least_signed}
+use Rattle.apf_coding.specs.Widths.{least_signed}
 use Rattle.apf_coding.specs.Instruction.{Instruction}
 use Rattle.apf_coding.specs.Meaning.{signed}
 use Rattle.apf_asm.specs.TextForms.{immediate}

@@ -8,26 +8,21 @@ use Rattle.std.specs.Result.{result_ok}
 use Rattle.std.specs.Str.{bytes_eq}
 use Rattle.std.proofs.lemmas.Bool.{eqb-true, eqb-false, ne_eqb, ltb-true, ltb-false, lt-ltb, le-ltb, leb-true, le-leb}
 use Rattle.std.proofs.lemmas.Fmt.{decimal_digit, first_decimal}
-use Rattle.std.proofs.lemmas.Slice.Eq.{bytes_eq-Decides}
 use Rattle.hex.specs.declared.error.FromHexError.{FromHexError}
 use Rattle.hex.specs.Hex.{decode_of, encode_lower, IsBytes}
 use Rattle.hex.proofs.HexLemmas.{decode_of-encode_lower}
-use Rattle.apf_coding.specs.Words.{least_unsigned}
-use Rattle.apf_coding.specs.Instruction.{IsWidth}
+use Rattle.apf_coding.specs.Widths.{least_unsigned}
+use Rattle.apf_coding.specs.Spelling.{IsWidth}
 use Rattle.apf_coding.specs.Reading.{◌>>=◌}
 use Rattle.apf_coding.proofs.Fields.{bind_some, some_is}
 use Rattle.apf_coding.proofs.Widths.{least, wider}
+use Rattle.plain_text.proofs.Words.{equal_words}
 use Rattle.apf_asm.specs.declared.item.Target.{Target}
 use Rattle.apf_asm.specs.declared.item.Target.TheVariants as targets
 use Rattle.apf_asm.specs.TextForms.{register_word, target_word, hex_word, IsTarget}
 use Rattle.apf_asm.specs.TextReading.{number_of, word_below, negative, positive, signed_of, register_of, target_of, is_upper, few, bytes_of, hex_of, below, fitting, counted, some_bytes}
 use Rattle.apf_asm.proofs.TextNumbers.{number_of_is, number_of-decimal, word_below_is, word_below-lt}
 use Rattle.apf_asm.proofs.TextHex.{decode_of-lower, encode_lower-low}
-
--- ---- equal words
-
-pub equal_words : (a b : List ℕ) → bytes_eq a b ≡ true → a ≡ b
-equal_words a b e = (bytes_eq-Decides a b).0 e
 
 -- a choice by an equal word, or the rest
 pub chosen : {A : Type 0} (a b : List ℕ) (yes : Bool) (x y : Option A) (z : A) → bytes_eq a b ≡ yes → cond yes x y ≡ Some z → ((a ≡ b) × (x ≡ Some z)) ⊎ (y ≡ Some z)

@@ -6,9 +6,10 @@ use Rattle.std.proofs.lemmas.List.Elements.{All-head, All-tail}
 use Rattle.std.proofs.lemmas.Bool.{false≢true}
 use Rattle.apf_coding.specs.declared.instruction.Op.{Op}
 use Rattle.apf_coding.specs.declared.instruction.Op.TheVariants.{Jnebs}
-use Rattle.apf_coding.specs.Words.{least_unsigned}
+use Rattle.apf_coding.specs.Widths.{least_unsigned}
 use Rattle.apf_coding.proofs.Widths.{wider, least-width, max-width}
-use Rattle.apf_coding.specs.Instruction.{IsWellFormed, IsWidth, is_counted, has_second}
+use Rattle.apf_coding.specs.Instruction.{is_counted, has_second}
+use Rattle.apf_coding.specs.Spelling.{IsWellFormed, IsWidth}
 use Rattle.apf_coding.specs.Run.{run, run_from, ended, first_state}
 use Rattle.apf_coding.specs.declared.machine.Verdict.TheVariants.{Pass}
 use Rattle.apf_coding.specs.declared.machine.Why.TheVariants as whys

@@ -1,6 +1,7 @@
 -- Items as instructions, and which are well formed.
 use Rattle.std.specs.Prelude.{◌≡◌, ℕ, ◌<◌, ◌≤◌, ◌^◌, ◌==◌, Bool, true, false, List, [], length, slice_index, All}
-use Rattle.apf_coding.specs.Instruction.{Instruction, IsWellFormed, is_conditional, is_counted, has_second}
+use Rattle.apf_coding.specs.Instruction.{Instruction, is_conditional, is_counted, has_second}
+use Rattle.apf_coding.specs.Spelling.{IsWellFormed}
 use Rattle.apf_coding.specs.Jumps.{is_jump}
 use Rattle.apf_asm.specs.declared.item.Fixed.{Fixed}
 use Rattle.apf_asm.specs.declared.item.Jump.{Jump}

@@ -1,7 +1,8 @@
 -- The one layout of items: the bytes, places and widths.
 use Rattle.std.specs.Prelude.{ℕ, ◌+◌, if◌then◌else◌, max, List, [], ◌∷◌, ◌++◌, length, sum_by}
-use Rattle.apf_coding.specs.Words.{least_unsigned}
-use Rattle.apf_coding.specs.Instruction.{IsWellFormed, spelling, is_counted}
+use Rattle.apf_coding.specs.Widths.{least_unsigned}
+use Rattle.apf_coding.specs.Instruction.{is_counted}
+use Rattle.apf_coding.specs.Spelling.{IsWellFormed, spelling}
 use Rattle.apf_asm.specs.declared.item.Item.{Item}
 use Rattle.apf_asm.specs.declared.item.Item.TheVariants as items
 use Rattle.apf_asm.specs.declared.item.Target.{Target}

@@ -5,8 +5,9 @@ use Rattle.std.specs.Fmt.{decimal, signed_decimal}
 use Rattle.hex.specs.Hex.{encode_lower, IsBytes}
 use Rattle.apf_coding.specs.declared.instruction.Op.{Op}
 use Rattle.apf_coding.specs.declared.instruction.Op.TheVariants.{Ldb, Ldh, Ldw, Ldbx, Ldhx, Ldwx, Add, Mul, Div, And, Or, Sh, Li, Jmp, Jnebs, Ext, Lddw, Stdw}
-use Rattle.apf_coding.specs.Words.{least_unsigned, least_signed}
-use Rattle.apf_coding.specs.Instruction.{Instruction, IsWellFormed, is_conditional, is_counted, has_second}
+use Rattle.apf_coding.specs.Widths.{least_unsigned, least_signed}
+use Rattle.apf_coding.specs.Instruction.{Instruction, is_conditional, is_counted, has_second}
+use Rattle.apf_coding.specs.Spelling.{IsWellFormed}
 use Rattle.apf_coding.specs.Names.{name_of}
 use Rattle.apf_asm.specs.declared.item.Target.{Target}
 use Rattle.apf_asm.specs.declared.item.Target.TheVariants as targets

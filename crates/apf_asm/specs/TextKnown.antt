@@ -3,7 +3,7 @@ use Rattle.std.specs.Prelude.{◌≡◌, ◌≢◌, ◌⊎◌, ℕ, List, [], �
 use Rattle.std.specs.Fmt.{decimal}
 use Rattle.apf_coding.specs.declared.instruction.Op.{Op}
 use Rattle.apf_coding.specs.declared.instruction.Op.TheVariants.{Ext}
-use Rattle.apf_coding.specs.Instruction.{IsWidth}
+use Rattle.apf_coding.specs.Spelling.{IsWidth}
 use Rattle.apf_coding.specs.Names.{name_of}
 use Rattle.apf_asm.specs.TextForms.{IsWord, dotted_word}
 

@@ -7,7 +7,7 @@ use Rattle.std.specs.Str.{bytes_eq}
 use Rattle.hex.specs.Hex.{decode_of}
 use Rattle.apf_coding.specs.declared.instruction.Op.{Op}
 use Rattle.apf_coding.specs.declared.instruction.Op.TheVariants.{Ldb, Ldh, Ldw, Ldbx, Ldhx, Ldwx, Add, Mul, Div, And, Or, Sh, Li, Jmp, Jeq, Jne, Jgt, Jlt, Jset, Jnebs, Ext, Lddw, Stdw}
-use Rattle.apf_coding.specs.Words.{least_unsigned}
+use Rattle.apf_coding.specs.Widths.{least_unsigned}
 use Rattle.apf_coding.specs.Instruction.{all_ops, has_second}
 use Rattle.apf_coding.specs.Names.{name_of}
 use Rattle.apf_coding.specs.Reading.{◌>>=◌}

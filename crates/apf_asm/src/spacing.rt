@@ -2,7 +2,7 @@
 
 ghost use Rattle.std.specs.Prelude.{◌≡◌, ◌^◌, ◌<◌, ◌≤◌, length, All, IfOk, None};
 ghost use Rattle.apf_asm.specs.Items.{IsItemForm, IsJumpForm};
-ghost use Rattle.apf_coding.specs.Words.{least_unsigned};
+ghost use Rattle.apf_coding.specs.Widths.{least_unsigned};
 ghost use Rattle.apf_asm.specs.Layout.{beside, width_for, item_width, item_widths, item_offsets};
 ghost use Rattle.apf_asm.specs.Labels.{aims_from};
 ghost use Rattle.apf_asm.specs.Refusals.{refusal};

@@ -4,7 +4,7 @@ ghost use Rattle.std.specs.Prelude.{◌≡◌, ◌≢◌, ◌↔◌, ◌⊎◌, 
 ghost use Rattle.std.specs.Int.{w32, cast_unsigned};
 ghost use Rattle.apf_coding.specs.Instruction.{Instruction};
 ghost use Rattle.apf_coding.specs.Meaning.{signed};
-ghost use Rattle.apf_coding.specs.Words.{least_signed};
+ghost use Rattle.apf_coding.specs.Widths.{least_signed};
 ghost use Rattle.apf_asm.specs.declared.item.Item.{Item};
 ghost use Rattle.apf_asm.specs.Items.{IsItemForm};
 ghost use Rattle.apf_asm.specs.declared.text_error.TextError.{TextError};

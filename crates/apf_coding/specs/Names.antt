@@ -1,8 +1,6 @@
--- The names of the opcodes and of the verdicts.
+-- The names of the opcodes.
 use Rattle.std.specs.Prelude.{ℕ, List, codes}
 use Rattle.apf_coding.specs.declared.instruction.Op.{Op}
-use Rattle.apf_coding.specs.declared.machine.Verdict.{Verdict}
-use Rattle.apf_coding.specs.declared.machine.Verdict.TheVariants.{Pass, Drop}
 use Rattle.apf_coding.specs.declared.instruction.Op.TheVariants.{Ldb, Ldh, Ldw, Ldbx, Ldhx, Ldwx, Add, Mul, Div, And, Or, Sh, Li, Jmp, Jeq, Jne, Jgt, Jlt, Jset, Jnebs, Ext, Lddw, Stdw}
 
 -- the name of an opcode, in lower case
@@ -30,8 +28,3 @@ name_of Jnebs = codes "jnebs"
 name_of Ext = codes "ext"
 name_of Lddw = codes "lddw"
 name_of Stdw = codes "stdw"
-
--- the word of a verdict
-unfoldable pub verdict_word : Verdict → List ℕ
-verdict_word Pass = codes "pass"
-verdict_word Drop = codes "drop"

@@ -1,8 +1,10 @@
 //! Instructions into bytes, and the widths of numbers.
 
 ghost use Rattle.std.specs.Prelude.{◌≡◌, ◌≤◌, ◌++◌, ℕ, OnOk, OnErr};
-ghost use Rattle.apf_coding.specs.Words.{big_endian, Holds, HoldsSigned, least_unsigned, least_signed};
-ghost use Rattle.apf_coding.specs.Instruction.{IsWidth, IsWellFormed, view, spelling, first_byte, size_of, second_of, counted_of};
+ghost use Rattle.apf_coding.specs.Words.{big_endian};
+ghost use Rattle.apf_coding.specs.Widths.{Holds, HoldsSigned, least_unsigned, least_signed};
+ghost use Rattle.apf_coding.specs.Instruction.{view};
+ghost use Rattle.apf_coding.specs.Spelling.{IsWidth, IsWellFormed, spelling, first_byte, size_of, second_of, counted_of};
 ghost use Rattle.apf_coding.specs.Writing.{Extends};
 
 use crate::instruction::{Instr, Op};

@@ -2,7 +2,8 @@
 use Rattle.std.proofs.Common.{◌≡◌, ℕ, ◌+◌, ◌<◌, List, [], ◌∷◌, ◌++◌, map, length, get_or, refl, sym, ap, subst, ◌∙◌, append_assoc}
 use Rattle.std.proofs.lemmas.List.{map-append, append-nil}
 use Rattle.std.proofs.lemmas.Option.{slice_get-get_or}
-use Rattle.apf_coding.specs.Instruction.{Instruction, Begins}
+use Rattle.apf_coding.specs.Instruction.{Instruction}
+use Rattle.apf_coding.specs.Spelling.{Begins}
 use Rattle.apf_disasm.specs.declared.listing.Line.{Line}
 use Rattle.apf_disasm.specs.declared.listing.Line.TheVariants as lines
 use Rattle.apf_disasm.specs.Listing.{Entry, Byte, entry_of, Lists, IsListing}

@@ -1,16 +1,19 @@
--- What each entry of a listing is, and that there is one listing.
-use Rattle.std.proofs.Common.{◌≡◌, ℕ, ◌+◌, ◌-◌, ◌<◌, ◌≤◌, Bool, true, false, cond, List, [], ◌∷◌, ◌++◌, length, drop, refl, ap, subst, arith}
-use Rattle.std.specs.Prelude.{slice_range}
+-- What each entry of a listing is.
+use Rattle.std.proofs.Common.{◌≡◌, ℕ, ◌+◌, ◌-◌, ◌<◌, ◌≤◌, Bool, true, false, cond, List, [], ◌∷◌, ◌++◌, map, length, drop, refl, ap, subst, arith}
+use Rattle.std.specs.Prelude.{slice_range, All}
 use Rattle.std.specs.List.{AllByRecursion}
 use Rattle.std.proofs.lemmas.List.{length-append, length-take, length-drop}
+use Rattle.std.proofs.lemmas.List.Elements.{All-from_recursion}
 use Rattle.std.proofs.lemmas.Option.{slice_get_within, get_or_from_slice_get}
-use Rattle.apf_coding.specs.Words.{big_endian}
-use Rattle.apf_coding.specs.Instruction.{Instruction, Begins, IsWellFormed, spelling, first_byte, second_of, counted_of, is_counted}
-use Rattle.apf_coding.proofs.Numbers.{AreBytes, AreBytes-take, AreBytes-drop, AreBytes-tail}
+use Rattle.apf_coding.specs.Words.{big_endian, AreBytes}
+use Rattle.apf_coding.specs.Instruction.{Instruction, is_counted}
+use Rattle.apf_coding.specs.Spelling.{Begins, IsWellFormed, spelling, first_byte, second_of, counted_of}
+use Rattle.apf_coding.proofs.Numbers.{AreBytes-take, AreBytes-drop, AreBytes-tail}
 use Rattle.apf_asm.specs.TextForms.{Dotted, IsAllowed}
+use Rattle.apf_disasm.specs.declared.listing.Line.{Line}
 use Rattle.apf_disasm.specs.Listing as listing
-use Rattle.apf_disasm.specs.Listing.{Entry, Lists}
-use Rattle.apf_disasm.specs.Printing.{form_of, place_of}
+use Rattle.apf_disasm.specs.Listing.{Entry, entry_of, Lists, IsListing}
+use Rattle.apf_disasm.specs.Printing.{form_of, place_of, IsReadable}
 
 -- ---- the bytes of an instruction in a code
 
@@ -57,3 +60,10 @@ entries_good code at (listing.Byte place value ∷ rest) fits long l =
     let here = l.0 in
     let byte : value < 256 = subst (λ (v : ℕ). v < 256) (get_or_from_slice_get code at value 0 l.1) (fits at) in
     (record { allowed = byte; place = omega arith }, entries_good code (at + 1) rest fits long l.3)
+
+each_readable : (size : ℕ) (ls : List Line) → AllByRecursion (IsGood size) (map entry_of ls) → AllByRecursion IsReadable ls
+each_readable size [] good = tt
+each_readable size (line ∷ rest) good = (good.0.allowed, each_readable size rest good.1)
+
+pub lines_readable : (code : List ℕ) (ls : List Line) → AreBytes code → length code ≤ 65535 → IsListing code (map entry_of ls) → All IsReadable ls
+lines_readable code ls fits long l = All-from_recursion IsReadable ls (each_readable (length code) ls (entries_good code 0 (map entry_of ls) fits long l))

@@ -6,7 +6,7 @@ use Rattle.std.proofs.lemmas.List.{drop_all}
 use Rattle.std.proofs.lemmas.List.Folds.{drop_split}
 use Rattle.std.proofs.lemmas.Option.{slice_get_within, get_or_from_slice_get}
 use Rattle.std.proofs.Math.Seq.{drop-cons}
-use Rattle.apf_coding.specs.Instruction.{spelling}
+use Rattle.apf_coding.specs.Spelling.{spelling}
 use Rattle.apf_asm.specs.declared.item.Item.{Item}
 use Rattle.apf_asm.specs.Layout.{code, item_widths, layout}
 use Rattle.apf_asm.specs.Refusals.{refused_from, answer}

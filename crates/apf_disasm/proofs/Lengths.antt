@@ -2,23 +2,25 @@
 use Rattle.std.proofs.Common.{◌≡◌, ℕ, ◌+◌, ◌*◌, ◌^◌, ◌<◌, ◌≤◌, Bool, true, false, cond, List, [], ◌∷◌, ◌++◌, length, refl, ap, subst, arith, inl, inr}
 use Rattle.std.specs.Prelude.{codes}
 use Rattle.std.specs.Fmt.{decimal}
-use Rattle.std.specs.List.{AllByRecursion, flat_map}
+use Rattle.std.specs.List.{AllByRecursion, flat_map, join_with_byte}
 use Rattle.std.proofs.lemmas.Fmt.{length-decimal-le}
 use Rattle.std.proofs.lemmas.List.{length-append, length-drop}
-use Rattle.hex.specs.Hex.{encode_lower, lower_digits}
+use Rattle.hex.specs.Hex.{lower_digits}
 use Rattle.hex.proofs.HexLemmas.{length-encode_with}
 use Rattle.apf_coding.specs.declared.instruction.Op.{Op}
 use Rattle.apf_coding.specs.declared.instruction.Op.TheVariants.{Ldb, Ldh, Ldw, Ldbx, Ldhx, Ldwx, Add, Mul, Div, And, Or, Sh, Li, Jmp, Jeq, Jne, Jgt, Jlt, Jset, Jnebs, Ext, Lddw, Stdw}
 use Rattle.apf_coding.specs.Words.{big_endian}
-use Rattle.apf_coding.specs.Instruction.{Instruction, IsWidth, IsWellFormed, has_second, is_counted, spelling, first_byte, second_of, counted_of}
+use Rattle.apf_coding.specs.Instruction.{Instruction, has_second, is_counted}
+use Rattle.apf_coding.specs.Spelling.{IsWidth, IsWellFormed, spelling, first_byte, second_of, counted_of}
 use Rattle.apf_coding.specs.Names.{name_of}
 use Rattle.apf_coding.proofs.Numbers.{length-big_endian}
 use Rattle.apf_disasm.specs.Listing as listing
 use Rattle.apf_disasm.specs.Listing.{Entry, IsListing}
-use Rattle.apf_disasm.specs.Printing.{line_text, listing_text, second_text, counted_text, place_text, instruction_line, byte_line}
+use Rattle.apf_disasm.specs.Printing.{line_text, listing_text}
 use Rattle.apf_disasm.proofs.Entries.{IsGood}
 use Rattle.apf_disasm.proofs.Layouts.{bytes_of, listed_bytes}
-use Rattle.apf_disasm.proofs.Parts.{written_is}
+use Rattle.apf_disasm.proofs.Parts.{spaced, join_spaced, spaced-append}
+use Rattle.apf_asm.specs.TextForms.{Dotted, words_of, register_word, dotted_word, hex_word, second_words, counted_words}
 use Rattle.apf_asm.proofs.Whole.{not_both}
 
 -- ---- the parts
@@ -82,20 +84,14 @@ number_length n w width lt = elim width [
   | inr (inr (inr p)) ↦ let small : n < 256 ^ 4 = subst (λ (k : ℕ). n < 256 ^ k) p lt in omega (arith, length-decimal-le 10 n (omega arith) (omega arith) (omega arith))
 ]
 
-one_digit : (n : ℕ) → n < 10 → length (decimal n) ≤ 1
-one_digit n lt = length-decimal-le 1 n (omega arith) (omega arith) (omega arith)
-
-place_length : (at : ℕ) → at < 100000 → length (place_text at) ≤ 12
-place_length at lt =
-    let digits = length-decimal-le 5 at (omega arith) (omega arith) (omega arith) in
-    omega (arith, length-append (codes " ; at " ++ decimal at) (10 ∷ []), length-append (codes " ; at ") (decimal at))
-
-second_length : (b : Bool) (second w : ℕ) → IsWidth w → second < 256 ^ w → length (cond b (codes " " ++ decimal second) []) ≤ cond b (2 + 5 * w) 0
-second_length true second w width lt = let digits = number_length second w width lt in omega arith
+second_length : (b : Bool) (second w : ℕ) → IsWidth w → second < 256 ^ w → length (spaced (cond b (decimal second ∷ []) [])) ≤ cond b (2 + 5 * w) 0
+unfolding spaced
+second_length true second w width lt = let digits = number_length second w width lt in omega (arith, length-append (decimal second) [])
 second_length false second w width lt = omega arith
 
-counted_length : (b : Bool) (bytes : List ℕ) → (b ≡ false → bytes ≡ []) → length (cond b (codes " x" ++ encode_lower bytes) []) ≤ cond b (2 + 2 * length bytes) 0
-counted_length true bytes none = let digits = length-encode_with lower_digits bytes in omega arith
+counted_length : (b : Bool) (bytes : List ℕ) → (b ≡ false → bytes ≡ []) → length (spaced (cond b (hex_word bytes ∷ []) [])) ≤ cond b (2 + 2 * length bytes) 0
+unfolding spaced
+counted_length true bytes none = let digits = length-encode_with lower_digits bytes in omega (arith, length-append (hex_word bytes) [])
 counted_length false bytes none = omega arith
 
 -- ---- the bytes
@@ -117,57 +113,63 @@ spelling_length i =
 
 -- ---- a line
 
-head_length : (name width reg imm : List ℕ) → length (name ++ codes "." ++ width ++ codes " r" ++ reg ++ codes " " ++ imm) ≡ length name + length width + length reg + length imm + 4
-head_length name width reg imm =
+-- the words of an instruction by their lengths
+words_sum : (i : Instruction)
+    → length (join_with_byte 32 (words_of (Dotted i))) ≡ length (name_of i.op) + length (decimal i.imm) + length (spaced (second_words i)) + length (spaced (counted_words i)) + 6
+unfolding spaced
+words_sum i =
+    let rest : List (List ℕ) = second_words i ++ counted_words i in
+    let joined = ap length (join_spaced (dotted_word i.op i.width) (register_word i.reg ∷ decimal i.imm ∷ rest)) in
+    let parts = ap length (spaced-append (second_words i) (counted_words i)) in
     omega (
       arith,
-      length-append (name ++ codes "." ++ width ++ codes " r" ++ reg ++ codes " ") imm,
-      length-append (name ++ codes "." ++ width ++ codes " r" ++ reg) (codes " "),
-      length-append (name ++ codes "." ++ width ++ codes " r") reg,
-      length-append (name ++ codes "." ++ width) (codes " r"),
-      length-append (name ++ codes ".") width,
-      length-append name (codes "."),
+      length-append (dotted_word i.op i.width) (spaced (register_word i.reg ∷ decimal i.imm ∷ rest)),
+      length-append (name_of i.op ++ codes ".") ((48 + i.width) ∷ []),
+      length-append (name_of i.op) (codes "."),
+      length-append (decimal i.imm) (spaced rest),
+      length-append (spaced (second_words i)) (spaced (counted_words i)),
     )
 
 -- at most 26 bytes of text for a byte of code, by whether there is a second immediate and counted bytes
-fits_26 : (has count : Bool) (name w d r n s b p size bytes : ℕ) → (has ≡ true → count ≡ false) → (count ≡ false → name ≤ 4) → name ≤ 5 → d ≤ 1 → r ≤ 1 → n ≤ 1 + 5 * w → s ≤ cond has (2 + 5 * w) 0 → b ≤ cond count (2 + 2 * bytes) 0 → p ≤ 12
-    → size ≡ 1 + w + cond has w 0 + cond count (w + bytes) 0 → name + d + r + n + 4 + s + b + p ≤ 26 * size
-fits_26 true true name w d r n s b p size bytes not_both short five dl rl nl sl bl pl e = absurd (let no = not_both refl in let clash : true ≡ false = no in absurd cc)
-fits_26 true false name w d r n s b p size bytes not_both short five dl rl nl sl bl pl e = let four = short refl in omega arith
-fits_26 false true name w d r n s b p size bytes not_both short five dl rl nl sl bl pl e = omega arith
-fits_26 false false name w d r n s b p size bytes not_both short five dl rl nl sl bl pl e = let four = short refl in omega arith
+fits_26 : (has count : Bool) (name w n s b size bytes : ℕ) → (has ≡ true → count ≡ false) → (count ≡ false → name ≤ 4) → name ≤ 5 → n ≤ 1 + 5 * w → s ≤ cond has (2 + 5 * w) 0 → b ≤ cond count (2 + 2 * bytes) 0
+    → size ≡ 1 + w + cond has w 0 + cond count (w + bytes) 0 → name + n + s + b + 18 ≤ 26 * size
+fits_26 true true name w n s b size bytes not_both short five nl sl bl e = absurd (let no = not_both refl in let clash : true ≡ false = no in absurd cc)
+fits_26 true false name w n s b size bytes not_both short five nl sl bl e = let four = short refl in omega arith
+fits_26 false true name w n s b size bytes not_both short five nl sl bl e = omega arith
+fits_26 false false name w n s b size bytes not_both short five nl sl bl e = let four = short refl in omega arith
 
 five : (op : Op) (b : Bool) → is_counted op ≡ b → length (name_of op) ≤ 5
 five op true e = counted_name op e
 five op false e = let four = name_short op e in omega arith
 
-line_length : (at : ℕ) (i : Instruction) → IsWellFormed i → at < 100000 → length (instruction_line at i) ≤ 26 * length (spelling i)
-line_length at i good place =
+words_length : (i : Instruction) → IsWellFormed i → length (join_with_byte 32 (words_of (Dotted i))) + 12 ≤ 26 * length (spelling i)
+words_length i good =
     let width = good.width in
-    let small : i.width < 10 = elim width [ inl e ↦ omega arith | inr (inl e) ↦ omega arith | inr (inr (inl e)) ↦ omega arith | inr (inr (inr e)) ↦ omega arith ] in
-    let bit = good.reg in
-    let front : List ℕ = name_of i.op ++ codes "." ++ decimal i.width ++ codes " r" ++ decimal i.reg ++ codes " " ++ decimal i.imm in
-    let head = head_length (name_of i.op) (decimal i.width) (decimal i.reg) (decimal i.imm) in
-    let sum : length (instruction_line at i) ≡ length front + length (second_text i) + length (counted_text i) + length (place_text at) =
-    omega (arith, length-append (front ++ second_text i ++ counted_text i) (place_text at), length-append (front ++ second_text i) (counted_text i), length-append front (second_text i)) in
-    let bound = fits_26 (has_second i.op i.reg) (is_counted i.op) (length (name_of i.op)) i.width (length (decimal i.width)) (length (decimal i.reg)) (length (decimal i.imm)) (length (second_text i)) (length (counted_text i)) (length (place_text at)) (length (spelling i)) (length i.bytes)
-    (not_both i.op i.reg) (name_short i.op) (five i.op (is_counted i.op) refl) (one_digit i.width small) (one_digit i.reg (omega arith)) (number_length i.imm i.width width good.imm)
-    (second_length (has_second i.op i.reg) i.second i.width width good.second) (counted_length (is_counted i.op) i.bytes good.no_bytes) (place_length at place) (spelling_length i) in
+    let sum = words_sum i in
+    let bound = fits_26 (has_second i.op i.reg) (is_counted i.op) (length (name_of i.op)) i.width (length (decimal i.imm)) (length (spaced (second_words i))) (length (spaced (counted_words i))) (length (spelling i)) (length i.bytes)
+    (not_both i.op i.reg) (name_short i.op) (five i.op (is_counted i.op) refl) (number_length i.imm i.width width good.imm)
+    (second_length (has_second i.op i.reg) i.second i.width width good.second) (counted_length (is_counted i.op) i.bytes good.no_bytes) (spelling_length i) in
     omega arith
 
-byte_length : (at value : ℕ) → value < 256 → at < 100000 → length (byte_line at value) ≤ 26
-byte_length at value byte place =
-    let digits = length-decimal-le 3 value (omega arith) (omega arith) (omega arith) in
-    let comment = place_length at place in
-    omega (arith, length-append (codes ".byte " ++ decimal value) (place_text at), length-append (codes ".byte ") (decimal value))
+-- the comment has at most 12 bytes
+line_length : (words : List ℕ) (at : ℕ) → at < 100000 → length (words ++ codes " ; at " ++ decimal at ++ 10 ∷ []) ≤ length words + 12
+line_length words at lt =
+    let digits = length-decimal-le 5 at (omega arith) (omega arith) (omega arith) in
+    omega (arith, length-append (words ++ codes " ; at " ++ decimal at) (10 ∷ []), length-append (words ++ codes " ; at ") (decimal at), length-append words (codes " ; at "))
 
 entry_length : (size : ℕ) (e : Entry) → size ≤ 100000 → IsGood size e → length (line_text e) ≤ 26 * length (bytes_of e)
+unfolding line_text
 entry_length size (listing.Op at i) long good =
     let place = good.place in
-    subst (λ (t : List ℕ). length t ≤ 26 * length (spelling i)) (written_is (listing.Op at i) good.allowed) (line_length at i good.allowed.0 (omega arith))
+    let line = line_length (join_with_byte 32 (words_of (Dotted i))) at (omega arith) in
+    let words = words_length i good.allowed.0 in
+    omega arith
 entry_length size (listing.Byte at value) long good =
     let place = good.place in
-    subst (λ (t : List ℕ). length t ≤ 26) (written_is (listing.Byte at value) good.allowed) (byte_length at value good.allowed (omega arith))
+    let byte : value < 256 = good.allowed in
+    let line = line_length (codes ".byte" ++ 32 ∷ decimal value) at (omega arith) in
+    let digits = length-decimal-le 3 value (omega arith) (omega arith) (omega arith) in
+    omega arith
 
 -- ---- the whole
 

@@ -1,31 +1,24 @@
 -- What was printed is the listing's text, and it is read back.
 use Rattle.std.proofs.Common.{◌≡◌, ℕ, ◌+◌, ◌≤◌, List, [], ◌∷◌, ◌++◌, map, length, drop, Result, Ok, Err, refl, sym, ap, subst, ◌∙◌, arith}
 use Rattle.std.specs.Prelude.{OnOk}
-use Rattle.std.specs.List.{AllByRecursion, flat_map}
 use Rattle.std.proofs.lemmas.List.{drop_at}
-use Rattle.apf_coding.proofs.Numbers.{AreBytes}
+use Rattle.apf_coding.specs.Words.{AreBytes}
 use Rattle.apf_asm.specs.TextLines.{Reads}
 use Rattle.apf_asm.proofs.TextShapes.{text_shape}
 use Rattle.apf_disasm.specs.declared.listing.Line.{Line}
 use Rattle.apf_disasm.specs.Listing as listing
 use Rattle.apf_disasm.specs.Listing.{Entry, entry_of, Lists, IsListing}
-use Rattle.apf_disasm.specs.Printing.{line_text, listing_text, written, AppendsListing}
+use Rattle.apf_disasm.specs.Printing.{listing_text, AppendsListing}
 use Rattle.apf_disasm.specs.ReadingBack.{ReadsBack}
-use Rattle.apf_disasm.proofs.Entries.{IsGood, entries_good}
+use Rattle.apf_disasm.proofs.Entries.{entries_good}
 use Rattle.apf_disasm.proofs.Layouts.{items_of, layout_is, accepted}
 use Rattle.apf_disasm.proofs.Lines.{entries_read}
 use Rattle.apf_disasm.proofs.Lengths.{listing_length}
-use Rattle.apf_disasm.proofs.Parts.{written_is}
 
-all_written : (size : ℕ) (entries : List Entry) → AllByRecursion (IsGood size) entries → flat_map written entries ≡ listing_text entries
-all_written size [] good = refl
-all_written size (e ∷ rest) good = ap (λ (t : List ℕ). t ++ flat_map written rest) (written_is e good.0.allowed) ∙ ap (λ (t : List ℕ). line_text e ++ t) (all_written size rest good.1)
-
-pub appends : {E : Type 0} (r : Result (Unit {0}) E) (code old new : List ℕ) (lines : List Line) → AreBytes code → length code ≤ 65535 → IsListing code (map entry_of lines)
-    → OnOk r (new ≡ old ++ flat_map written (map entry_of lines)) → OnOk r (AppendsListing code old new)
-appends (Ok done) code old new lines fits long l e =
-    record { entries = map entry_of lines; listed = l; appended = e ∙ ap (λ (t : List ℕ). old ++ t) (all_written (length code) (map entry_of lines) (entries_good code 0 (map entry_of lines) fits long l)) }
-appends (Err x) code old new lines fits long l e = tt
+pub appends : {E : Type 0} (r : Result (Unit {0}) E) (code old new : List ℕ) (lines : List Line) → IsListing code (map entry_of lines)
+    → OnOk r (new ≡ old ++ listing_text (map entry_of lines)) → OnOk r (AppendsListing code old new)
+appends (Ok done) code old new lines l e = record { entries = map entry_of lines; listed = l; appended = e }
+appends (Err x) code old new lines l e = tt
 
 same_end : (old a b : List ℕ) → old ++ a ≡ old ++ b → a ≡ b
 same_end old a b e = sym (drop_at old a (length old) refl) ∙ ap (drop (length old)) e ∙ drop_at old b (length old) refl

@@ -4,7 +4,8 @@ use Rattle.std.specs.Prelude.{All, slice_range}
 use Rattle.std.proofs.lemmas.Bool.{ltb-false}
 use Rattle.std.proofs.lemmas.List.{append-nil, take_at, drop_at, length-append}
 use Rattle.std.proofs.lemmas.List.Elements.{All-head, All-tail}
-use Rattle.apf_coding.specs.Instruction.{Instruction, IsWellFormed, Begins, spelling}
+use Rattle.apf_coding.specs.Instruction.{Instruction}
+use Rattle.apf_coding.specs.Spelling.{IsWellFormed, Begins, spelling}
 use Rattle.apf_asm.specs.declared.item.Item.{Item}
 use Rattle.apf_asm.specs.declared.item.Item.TheVariants as items
 use Rattle.apf_asm.specs.declared.item.AsmError.TheVariants.{TooLong}

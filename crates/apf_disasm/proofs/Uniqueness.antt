@@ -3,9 +3,10 @@ use Rattle.std.proofs.Common.{◌≡◌, ℕ, zero, suc, ◌+◌, ◌-◌, ◌<�
 use Rattle.std.specs.Prelude.{slice_get}
 use Rattle.std.proofs.lemmas.Bool.{cases_lt}
 use Rattle.std.proofs.lemmas.Option.{slice_get_within, slice_get-get_or, some_pair_parts}
-use Rattle.apf_coding.specs.Instruction.{Instruction, Begins}
+use Rattle.apf_coding.specs.Instruction.{Instruction}
+use Rattle.apf_coding.specs.Spelling.{Begins}
 use Rattle.apf_coding.specs.Reading.{instruction_at}
-use Rattle.apf_coding.proofs.Numbers.{AreBytes}
+use Rattle.apf_coding.specs.Words.{AreBytes}
 use Rattle.apf_coding.proofs.Spelling.{instruction_at-begins, begins-instruction_at}
 use Rattle.apf_disasm.specs.Listing.{Entry, Op, Byte, Lists, IsListing}
 

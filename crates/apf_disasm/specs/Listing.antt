@@ -1,6 +1,7 @@
 -- The listing of a code: an entry for each instruction, and one for each byte at which none begins.
 use Rattle.std.specs.Prelude.{◌≡◌, ℕ, ◌+◌, List, [], ◌∷◌, length, slice_get, Some}
-use Rattle.apf_coding.specs.Instruction.{Instruction, view, Begins}
+use Rattle.apf_coding.specs.Instruction.{Instruction, view}
+use Rattle.apf_coding.specs.Spelling.{Begins}
 use Rattle.apf_disasm.specs.declared.listing.Line.{Line}
 use Rattle.apf_disasm.specs.declared.listing.Line.TheVariants as lines
 

@@ -1,7 +1,8 @@
 //! The lines of a listing.
 
-ghost use Rattle.std.specs.Prelude.{◌≡◌, ◌≤◌, length, map, IfOk};
+ghost use Rattle.std.specs.Prelude.{◌≡◌, ◌≤◌, length, map, All, IfOk};
 ghost use Rattle.apf_disasm.specs.Listing.{entry_of, IsListing};
+ghost use Rattle.apf_disasm.specs.Printing.{IsReadable};
 
 use apf_base::{List, OutOfMemory};
 use apf_coding::{Instr, decode};
@@ -20,7 +21,9 @@ pub enum Line<'a> {
 /// Where none begins the byte is a line.
 pub fn list(alloc: Global, code: &[u8]) -> Result<List<Line<'_>>, OutOfMemory>
     requires { length code.now ≤ 65535 }
-    ensures { IfOk result (λ lines. IsListing code.now (map entry_of lines)) }
+    ensures listing { IfOk result (λ lines. IsListing code.now (map entry_of lines)) }
+    // Each line can be written as text.
+    ensures readable { IfOk result (λ lines. All IsReadable lines) }
 {
     let mut lines = List::new(alloc);
     let mut at = 0;

@@ -1,11 +1,13 @@
 //! The text of a listing.
 
-ghost use Rattle.std.specs.Prelude.{◌≡◌, ◌≤◌, ◌++◌, length, string_bytes, OnOk, OnErr, IfOk, map, List as Items, ℕ};
-ghost use Rattle.std.specs.List.{flat_map};
-ghost use Rattle.apf_coding.specs.Instruction.{view, has_second};
+ghost use Rattle.std.specs.Prelude.{◌≡◌, ◌≤◌, ◌++◌, length, string_bytes, All, OnOk, OnErr, IfOk, map, List as Items, ℕ};
+ghost use Rattle.std.specs.List.{join_with_byte};
+ghost use Rattle.apf_coding.specs.Instruction.{view, has_second, is_counted};
+ghost use Rattle.apf_coding.specs.Spelling.{IsWellFormed};
 ghost use Rattle.apf_coding.specs.Writing.{Extends};
+ghost use Rattle.apf_asm.specs.TextForms.{Dotted, words_of};
 ghost use Rattle.apf_disasm.specs.Listing.{entry_of};
-ghost use Rattle.apf_disasm.specs.Printing.{AppendsListing, second_text, counted_text, place_text, instruction_line, byte_line, written};
+ghost use Rattle.apf_disasm.specs.Printing.{AppendsListing, IsReadable, line_text, listing_text};
 ghost use Rattle.apf_disasm.specs.ReadingBack.{ReadsBack};
 
 use crate::listing::{Line, list};
@@ -20,66 +22,49 @@ fn has_second(i: &Instr<'_>) -> bool
     matches!(i.op, Op::Jeq | Op::Jne | Op::Jgt | Op::Jlt | Op::Jset) && i.reg == 0
 }
 
-fn add_second(text: &mut String, i: &Instr<'_>) -> Result<(), AllocError>
-    ensures { OnOk result (string_bytes text.new ≡ string_bytes text.old ++ second_text (view i.now)) }
+/// Whether an instruction has counted bytes.
+fn is_counted(i: &Instr<'_>) -> bool
+    ensures { result ≡ is_counted i.now.op }
 {
-    if has_second(i) {
-        let second = i.second;
-        write!(text, " {second}")?;
-    }
-    Ok(())
+    matches!(i.op, Op::Jnebs)
 }
 
-fn add_counted(alloc: Global, text: &mut String, i: &Instr<'_>) -> Result<(), AllocError>
-    ensures { OnOk result (string_bytes text.new ≡ string_bytes text.old ++ counted_text (view i.now)) }
-{
-    if i.op == Op::Jnebs {
-        let bytes = hex::encode(alloc, i.bytes)?;
-        write!(text, " x{bytes}")?;
-    }
-    Ok(())
-}
-
-fn add_place(text: &mut String, at: u32) -> Result<(), AllocError>
-    ensures { OnOk result (string_bytes text.new ≡ string_bytes text.old ++ place_text at) }
-{
-    write!(text, " ; at {at}\n")
-}
-
-/// The line of an instruction.
-fn instruction_line(alloc: Global, at: u32, i: &Instr<'_>) -> Result<String, AllocError>
-    ensures { IfOk result (λ line. string_bytes line ≡ instruction_line at (view i.now)) }
+/// The words of an instruction, one space apart.
+fn instruction_words(alloc: Global, i: &Instr<'_>) -> Result<String, AllocError>
+    requires { IsWellFormed (view i.now) }
+    ensures { IfOk result (λ words. string_bytes words ≡ join_with_byte 32 (words_of (Dotted (view i.now)))) }
 {
     let (name, width, reg, imm) = (i.op.name(), i.width, i.reg, i.imm);
-    let mut line = format!(in alloc; "{name}.{width} r{reg} {imm}")?;
-    add_second(&mut line, i)?;
-    add_counted(alloc, &mut line, i)?;
-    add_place(&mut line, at)?;
-    Ok(line)
+    let front = format!(in alloc; "{name}.{width} r{reg} {imm}")?;
+    if has_second(i) {
+        let second = i.second;
+        format!(in alloc; "{front} {second}")
+    } else if is_counted(i) {
+        let bytes = hex::encode(alloc, i.bytes)?;
+        format!(in alloc; "{front} x{bytes}")
+    } else {
+        Ok(front)
+    }
 }
 
-/// The line of a byte.
-fn byte_line(alloc: Global, at: u32, value: u8) -> Result<String, AllocError>
-    ensures { IfOk result (λ line. string_bytes line ≡ byte_line at value) }
-{
-    let mut line = format!(in alloc; ".byte {value}")?;
-    add_place(&mut line, at)?;
-    Ok(line)
-}
-
-/// The text of a line, as it stands in the listing, with its line feed. For a line of a listing it is its text there.
+/// The text of a line, with its line feed, as it stands in a listing. Each line of a listing is readable.
 pub fn line_text(alloc: Global, line: &Line<'_>) -> Result<String, AllocError>
-    ensures { IfOk result (λ text. string_bytes text ≡ written (entry_of line.now)) }
+    requires { IsReadable line.now }
+    ensures { IfOk result (λ text. string_bytes text ≡ line_text (entry_of line.now)) }
 {
     match line {
-        Line::Op { at, instr } => instruction_line(alloc, *at, instr),
-        Line::Byte { at, value } => byte_line(alloc, *at, *value),
+        Line::Op { at, instr } => {
+            let words = instruction_words(alloc, instr)?;
+            format!(in alloc; "{words} ; at {at}\n")
+        }
+        Line::Byte { at, value } => format!(in alloc; ".byte {value} ; at {at}\n"),
     }
 }
 
 /// Appends the texts of lines. An `Err` leaves a part of them.
 fn append_lines(alloc: Global, lines: &[Line<'_>], out: &mut List<u8>) -> Result<(), OutOfMemory>
-    ensures ok { OnOk result (out.new ≡ out.old ++ flat_map written (map entry_of lines.now)) }
+    requires { All IsReadable lines.now }
+    ensures ok { OnOk result (out.new ≡ out.old ++ listing_text (map entry_of lines.now)) }
     ensures err { OnErr result (Extends out.old out.new) }
 {
     for line in lines {

@@ -25,12 +25,12 @@ use Rattle.policy_state.specs.Asking.{first_of}
 use Rattle.policy_state.specs.Policy.{questions}
 use Rattle.policy_state.specs.Whole.{Short, fate_of}
 use Rattle.policy_state.proofs.Verdicts.{questions-answer}
-use Rattle.rule_items.specs.Building.{fixed}
-use Rattle.rule_items.specs.Saying.{End, end_of}
-use Rattle.rule_items.specs.Fragment.{IsApart, AreFresh, IsPart, labels}
-use Rattle.rule_items.proofs.Forms.{IsSound, forms_of, label_form_of, sound-byte, labels-append, form-fixed, form-jump}
-use Rattle.rule_items.proofs.Parts.{length-items, sound-fragment, wide-append}
-use Rattle.rule_items.proofs.Settled.{AllLead, AllApart, none_refused, lead-append}
+use Rattle.apf_asm.specs.Building.{fixed}
+use Rattle.apf_asm.specs.Saying.{End, end_of}
+use Rattle.apf_asm.specs.Fragment.{IsApart, AreFresh, IsPart, labels}
+use Rattle.apf_asm.proofs.Forms.{IsSound, forms_of, label_form_of, sound-byte, labels-append, form-fixed, form-jump}
+use Rattle.apf_asm.proofs.Parts.{length-items, sound-fragment, wide-append}
+use Rattle.apf_asm.proofs.Settled.{AllLead, AllApart, none_refused, lead-append}
 use Rattle.apf_generate.specs.Means.{HasFate, Means}
 use Rattle.apf_generate.specs.Program.{asked}
 use Rattle.apf_generate.specs.Listing.{opening_items, end_items, between_ends}

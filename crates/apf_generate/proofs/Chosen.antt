@@ -9,12 +9,12 @@ use Rattle.policy_state.specs.declared.ruling.Ruling.TheVariants.{Silent}
 use Rattle.policy_state.specs.Asking.{otherwise, first_of}
 use Rattle.policy_state.specs.Records.{advertised_again}
 use Rattle.policy_state.proofs.AskingLaws.{otherwise-assoc, otherwise-silent}
-use Rattle.rule_items.specs.Fragment.{Emits, IsPart, labels}
-use Rattle.rule_items.specs.Rulings.{said_of}
-use Rattle.rule_items.proofs.Forms.{sound-nil}
-use Rattle.rule_items.proofs.Parts.{fragment-of, part-then, part-same}
-use Rattle.rule_items.proofs.Rules.{done, told}
-use Rattle.rule_items.proofs.Rulings.{rulings, said-otherwise}
+use Rattle.apf_asm.specs.Fragment.{Emits, IsPart, labels}
+use Rattle.policy_state.specs.Rulings.{said_of}
+use Rattle.apf_asm.proofs.Forms.{sound-nil}
+use Rattle.apf_asm.proofs.Parts.{fragment-of, part-then, part-same}
+use Rattle.apf_asm.proofs.Rules.{done, told}
+use Rattle.policy_state.proofs.Rulings.{rulings, said-otherwise}
 use Rattle.size_fit.specs.Sizes.{weight}
 use Rattle.apf_generate.specs.Program.{AddsRecords}
 use Rattle.apf_generate.specs.Sizes.{weights}

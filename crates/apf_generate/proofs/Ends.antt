@@ -25,10 +25,10 @@ use Rattle.data_counters.proofs.Apart.{IsCounterNumber, number_of-range, length-
 use Rattle.policy_state.specs.declared.ruling.Ruling.{Ruling}
 use Rattle.policy_state.specs.declared.ruling.Ruling.TheVariants as rulings
 use Rattle.policy_state.specs.Whole.{Fate, Short, Missing, Says, fate_of}
-use Rattle.rule_items.specs.Building.{label_of, jump}
-use Rattle.rule_items.specs.Saying.{End, end_of, fault_of, with_registers, counted, Follows, IsReady}
-use Rattle.rule_items.proofs.Steps.{at, at-away, at-here, on-taken}
-use Rattle.rule_items.specs.Rulings.{said_of}
+use Rattle.apf_asm.specs.Building.{label_of, jump}
+use Rattle.apf_asm.specs.Saying.{End, end_of, fault_of, with_registers, counted, Follows, IsReady}
+use Rattle.apf_asm.proofs.Steps.{at, at-away, at-here, on-taken}
+use Rattle.policy_state.specs.Rulings.{said_of}
 use Rattle.apf_generate.specs.Means.{HasFate, EndsBy}
 use Rattle.apf_generate.specs.Listing.{raising_items, end_items}
 use Rattle.apf_generate.proofs.Raising.{on-raising}

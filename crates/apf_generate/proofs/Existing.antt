@@ -17,16 +17,17 @@ use Rattle.policy_state.specs.declared.state.Keepalive.{Keepalive}
 use Rattle.policy_state.specs.Asking.{first_of}
 use Rattle.policy_state.specs.Ip4.{keepalive_answers}
 use Rattle.policy_state.specs.Policy.{link, arp, ip4}
-use Rattle.apf_generate.specs.Ranges.{AreBytes, IsMac, IsAddress, IsChosen, IsBasis}
+use Rattle.apf_generate.specs.Ranges.{IsAddress, IsChosen, IsBasis}
+use Rattle.apf_coding.specs.Words.{AreBytes}
 use Rattle.policy_state.specs.Records.{advertised_again}
-use Rattle.rule_items.specs.Fragment.{Emits, IsPart}
-use Rattle.rule_items.specs.Rulings.{said_of}
-use Rattle.rule_items.specs.Saying.{Said}
-use Rattle.rule_items.proofs.Parts.{part-then, part-same}
-use Rattle.rule_items.proofs.Rulings.{said-otherwise}
+use Rattle.apf_asm.specs.Fragment.{Emits, IsPart}
+use Rattle.policy_state.specs.Rulings.{said_of}
+use Rattle.apf_coding.specs.Said.{Said}
+use Rattle.apf_asm.proofs.Parts.{part-then, part-same}
+use Rattle.policy_state.proofs.Rulings.{said-otherwise}
 use Rattle.arp_rules.specs.Listing.{link_items, arp_items, IsInRange}
 use Rattle.arp_rules.proofs.Emitted.{link_emitted, arp_emitted}
-use Rattle.ip_rules.specs.Ip4Listing.{slots_items, segment_items, ip4_items, IsMac as IsMacOfRules, IsInRange as IsNetInRange}
+use Rattle.ip_rules.specs.Ip4Listing.{slots_items, segment_items, ip4_items, IsInRange as IsNetInRange}
 use Rattle.ip_rules.specs.Ip6Listing.{ip6_items}
 use Rattle.ip_rules.proofs.Ip4Emitted.{ip4_emitted}
 use Rattle.ip_rules.proofs.Ip6Emitted.{ip6_emitted}
@@ -58,9 +59,6 @@ host_bits p le =
 net_fits : (address : Option Address) → IfSome address IsAddress → IsNetInRange address
 net_fits None h = tt
 net_fits (Some address) h = λ lt. or_of_32 address.ip (2 ^ (32 - address.prefix) - 1) h.ip (host_bits address.prefix h.prefix)
-
-mac_fits : (mac : List ℕ) → IsMac mac → IsMacOfRules mac
-mac_fits mac h = record { six = h.six; bytes = h.bytes }
 
 -- ---- keepalives
 
@@ -146,7 +144,7 @@ module _ (basis : Basis) (h : IsBasis basis) (fits : need_of basis ≤ limit_of 
   ip4_there : Emits (λ age frame. said_of (ip4 basis frame)) (160 + 80 * count_by is_some basis.state.keepalives) 4 over arp_list ip4_list
   ip4_there =
       ip4_emitted basis 4 keepalives.label [] keepalives.answers arp_list ip4_list refl (lit≤ tt) keepalives.emits
-      (λ on. mac_fits basis.config.mac h.config.mac) (λ on. net_fits basis.state.address h.state.address) refl keepalives.few
+      (λ on. h.config.mac) (λ on. net_fits basis.state.address h.state.address) refl keepalives.few
 
   abbrev test_list : List Item
   test_list = ip4_list ++ ip6_test_items over

@@ -10,7 +10,7 @@ use Rattle.policy_state.specs.declared.basis.Basis.{Basis}
 use Rattle.apf_generate.specs.Listing.{between_ends}
 use Rattle.apf_generate.specs.Means.{Means}
 use Rattle.apf_generate.specs.Program.{most_asked, IsProgram}
-use Rattle.apf_generate.specs.Ranges.{AreBytes}
+use Rattle.apf_coding.specs.Words.{AreBytes}
 use Rattle.apf_generate.specs.Sizes.{need_of}
 use Rattle.size_fit.specs.Sizes.{limit_of}
 use Rattle.apf_generate.proofs.AnyProgram.{forms, labelled, few_items, length-bytes, means_of, not_refused}

@@ -9,6 +9,7 @@ use Rattle.apf_asm.specs.declared.item.Item.TheVariants as items
 use Rattle.apf_asm.specs.declared.item.Target.TheVariants as targets
 use Rattle.apf_asm.specs.Layout.{wide_size}
 use Rattle.data_counters.specs.declared.counter.Counter.TheVariants.{PassedIpv6Icmp}
+use Rattle.data_counters.specs.Counters.{number_of}
 use Rattle.policy_state.specs.declared.basis.Basis.{Basis}
 use Rattle.policy_state.specs.declared.basis.Chosen.{Chosen}
 use Rattle.policy_state.specs.declared.ruling.Ruling.{Ruling}
@@ -20,15 +21,16 @@ use Rattle.policy_state.specs.Policy.{ip6}
 use Rattle.policy_state.specs.Records.{repeated_advertisements}
 use Rattle.policy_state.proofs.AskingLaws.{otherwise-silent, when-not}
 use Rattle.policy_state.proofs.FieldsSeen.{number_seen}
-use Rattle.rule_items.specs.Building.{load, jump_if}
-use Rattle.rule_items.specs.Fragment.{AreFresh, IsFragment, IsPart, Emits, labels}
-use Rattle.rule_items.specs.Rulings.{said_of}
-use Rattle.rule_items.specs.Saying.{Said, Tells}
-use Rattle.rule_items.proofs.Language.{said_first}
-use Rattle.rule_items.proofs.Forms.{IsSound, stands-here, labels-append, sound-nil, sound-append, sound-byte, sound-if_label, sound-jump_end, sound-label}
-use Rattle.rule_items.proofs.Parts.{fragment-of, sound-fragment, fresh-away, fresh-over, wide-append, part-same, part-then, part-yields}
-use Rattle.rule_items.proofs.Rules.{done, restated, counts, reads_half, answers, skips_if, told}
-use Rattle.rule_items.proofs.Rulings.{rulings, said-otherwise, sound-counting}
+use Rattle.apf_asm.specs.Building.{load, jump_if}
+use Rattle.apf_asm.specs.Fragment.{AreFresh, IsFragment, IsPart, Emits, labels}
+use Rattle.policy_state.specs.Rulings.{said_of}
+use Rattle.apf_coding.specs.Said.{Said}
+use Rattle.apf_asm.specs.Saying.{Tells}
+use Rattle.apf_coding.proofs.Language.{said_first}
+use Rattle.apf_asm.proofs.Forms.{IsSound, stands-here, labels-append, sound-nil, sound-append, sound-byte, sound-if_label, sound-jump_end, sound-label, sound-count}
+use Rattle.apf_asm.proofs.Parts.{fragment-of, sound-fragment, fresh-away, fresh-over, wide-append, part-same, part-then, part-yields}
+use Rattle.apf_asm.proofs.Rules.{done, restated, counts, reads_half, answers, skips_if, told}
+use Rattle.policy_state.proofs.Rulings.{rulings, said-otherwise, has_word}
 use Rattle.apf_generate.specs.Listing.{ip6_test_items, ip6_last_items, ip6_items}
 use Rattle.apf_generate.specs.Program.{AddsRecords, AddsIp6}
 use Rattle.apf_generate.specs.Sizes.{weights}
@@ -43,7 +45,7 @@ last_tell = told rulings (λ age frame. other_icmp6) _ (λ n frame age m ready.
 last_part : (next : ℕ) → IsPart (λ age frame. said_of other_icmp6) next next 7 ip6_last_items
 unfolding labels
 last_part next = record {
-  form = fragment-of next next 7 ip6_last_items (sound-counting PassedIpv6Icmp _ (sound-jump_end Pass [] sound-nil)) (omega arith) tt (omega arith) (lit≤ tt);
+  form = fragment-of next next 7 ip6_last_items (sound-count (number_of PassedIpv6Icmp) _ (has_word PassedIpv6Icmp) (sound-jump_end Pass [] sound-nil)) (omega arith) tt (omega arith) (lit≤ tt);
   tells = last_tell;
 }
 

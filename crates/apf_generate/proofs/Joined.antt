@@ -8,11 +8,11 @@ use Rattle.policy_state.specs.declared.ruling.Ruling.TheVariants.{Silent}
 use Rattle.policy_state.specs.Asking.{otherwise}
 use Rattle.policy_state.specs.Policy.{link, arp, ip4, ip6, others}
 use Rattle.policy_state.proofs.AskingLaws.{otherwise-silent}
-use Rattle.rule_items.specs.Fragment.{Emits}
-use Rattle.rule_items.proofs.Language.{said_first}
-use Rattle.rule_items.proofs.Parts.{part-then, part-same}
-use Rattle.rule_items.specs.Rulings.{said_of}
-use Rattle.rule_items.proofs.Rulings.{said-otherwise}
+use Rattle.apf_asm.specs.Fragment.{Emits}
+use Rattle.apf_coding.proofs.Language.{said_first}
+use Rattle.apf_asm.proofs.Parts.{part-then, part-same}
+use Rattle.policy_state.specs.Rulings.{said_of}
+use Rattle.policy_state.proofs.Rulings.{said-otherwise}
 use Rattle.apf_generate.specs.Listing.{opening_items, last_items, end_items}
 use Rattle.apf_generate.specs.Program.{asked, most_asked, AddsIp6, IsProgram}
 use Rattle.apf_generate.specs.Sizes.{weights}

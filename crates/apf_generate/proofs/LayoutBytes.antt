@@ -4,14 +4,15 @@ use Rattle.std.specs.Prelude.{All}
 use Rattle.std.proofs.lemmas.List.Elements.{All-head, All-tail}
 use Rattle.apf_coding.specs.declared.instruction.Op.{Op}
 use Rattle.apf_coding.specs.declared.instruction.Op.TheVariants.{Ldb}
-use Rattle.apf_coding.specs.Words.{least_unsigned, big_endian}
-use Rattle.apf_coding.specs.Instruction.{Instruction, IsWidth, number_of, size_of, first_byte, second_of, counted_of, spelling, has_second, is_counted}
+use Rattle.apf_coding.specs.Words.{big_endian, AreBytes}
+use Rattle.apf_coding.specs.Widths.{least_unsigned}
+use Rattle.apf_coding.specs.Instruction.{Instruction, number_of, has_second, is_counted}
+use Rattle.apf_coding.specs.Spelling.{IsWidth, size_of, first_byte, second_of, counted_of, spelling}
 use Rattle.apf_coding.proofs.Widths.{least-width, max-width}
 use Rattle.apf_asm.specs.declared.item.Item.{Item}
 use Rattle.apf_asm.specs.declared.item.Item.TheVariants as items
 use Rattle.apf_asm.specs.Items.{fixed_instruction, jump_instruction, IsItemForm, IsLabelled}
 use Rattle.apf_asm.specs.Layout.{piece, beside, item_offset, item_width, item_widths, code, layout}
-use Rattle.apf_generate.specs.Ranges.{AreBytes}
 
 -- ---- lists
 

@@ -4,20 +4,21 @@ use Rattle.std.specs.Prelude.{bytes_eq}
 use Rattle.apf_coding.specs.declared.instruction.Op.TheVariants.{Li}
 use Rattle.apf_coding.specs.declared.machine.Verdict.TheVariants.{Pass, Drop}
 use Rattle.data_counters.specs.declared.counter.Counter.TheVariants.{PassedNonIpUnicast, DroppedEthBroadcast}
+use Rattle.data_counters.specs.Counters.{number_of}
 use Rattle.policy_state.specs.declared.ruling.Ruling.{Ruling}
 use Rattle.policy_state.specs.declared.ruling.Ruling.TheVariants.{Says}
 use Rattle.policy_state.specs.Asking.{reading}
 use Rattle.policy_state.specs.Ethernet.{destination, broadcast}
 use Rattle.policy_state.specs.Policy.{others}
 use Rattle.policy_state.proofs.FieldsSeen.{bytes_seen}
-use Rattle.rule_items.specs.Fragment.{IsPart, labels}
-use Rattle.rule_items.specs.Saying.{Tells}
-use Rattle.rule_items.proofs.Forms.{IsSound, bytes_fit, sound-nil, sound-byte, sound-jump_end, sound-unless_end}
-use Rattle.rule_items.proofs.Parts.{fragment-of}
-use Rattle.rule_items.proofs.Rules.{done, restated, counts, places, answers, answers_unless, told}
-use Rattle.rule_items.specs.Rulings.{said_of}
-use Rattle.rule_items.proofs.Rulings.{rulings}
-use Rattle.rule_items.proofs.Rulings.{sound-counting}
+use Rattle.apf_asm.specs.Fragment.{IsPart, labels}
+use Rattle.apf_asm.specs.Saying.{Tells}
+use Rattle.apf_asm.proofs.Forms.{IsSound, bytes_fit, sound-nil, sound-byte, sound-jump_end, sound-unless_end, sound-count}
+use Rattle.apf_asm.proofs.Parts.{fragment-of}
+use Rattle.apf_asm.proofs.Rules.{done, restated, counts, places, answers, answers_unless, told}
+use Rattle.policy_state.specs.Rulings.{said_of}
+use Rattle.policy_state.proofs.Rulings.{rulings}
+use Rattle.policy_state.proofs.Rulings.{has_word}
 use Rattle.apf_generate.specs.Listing.{last_items}
 use Rattle.ip_rules.proofs.Ip4Ruling.{cond-not}
 
@@ -45,8 +46,8 @@ others_tell = told rulings (λ age frame. others frame) _ (λ n frame age m read
 
 sound-last : IsSound last_items
 sound-last =
-    sound-byte Li 0 0 _ refl (lit< tt) (lit< tt) (sound-counting PassedNonIpUnicast _ (sound-unless_end broadcast Pass _ (lit< tt) (lit≤ tt) (bytes_fit broadcast refl)
-    (sound-counting DroppedEthBroadcast _ (sound-jump_end Drop [] sound-nil))))
+    sound-byte Li 0 0 _ refl (lit< tt) (lit< tt) (sound-count (number_of PassedNonIpUnicast) _ (has_word PassedNonIpUnicast) (sound-unless_end broadcast Pass _ (lit< tt) (lit≤ tt) (bytes_fit broadcast refl)
+    (sound-count (number_of DroppedEthBroadcast) _ (has_word DroppedEthBroadcast) (sound-jump_end Drop [] sound-nil))))
 
 pub others_part : (next : ℕ) → IsPart (λ age frame. said_of (others frame)) next next 26 last_items
 unfolding labels

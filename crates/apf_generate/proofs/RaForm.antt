@@ -11,6 +11,7 @@ use Rattle.apf_asm.specs.declared.item.Item.TheVariants as items
 use Rattle.apf_asm.specs.declared.item.Target.TheVariants as targets
 use Rattle.apf_asm.specs.Layout.{wide_size, wide_length}
 use Rattle.data_counters.specs.declared.counter.Counter.TheVariants.{DroppedRa}
+use Rattle.data_counters.specs.Counters.{number_of}
 use Rattle.ra_records.specs.declared.span.Span.{Span}
 use Rattle.ra_records.specs.Masks.{IsWithin, IsNumber}
 use Rattle.ra_records.specs.Advert.{masks, sections, IsSound as IsRecord}
@@ -18,12 +19,12 @@ use Rattle.ra_records.proofs.Rising.{masks_rise, between_within, numbers}
 use Rattle.policy_state.specs.declared.basis.Chosen.{Chosen}
 use Rattle.policy_state.specs.Records.{advertised_again}
 use Rattle.size_fit.specs.Sizes.{section_weight, weight}
-use Rattle.rule_items.specs.Building.{fixed, jump_if, jump_unless}
-use Rattle.rule_items.specs.Fragment.{AreFresh, IsFragment, Emits, labels}
-use Rattle.rule_items.specs.Rulings.{said_of}
-use Rattle.rule_items.proofs.Forms.{IsSound, stands-here, sound-nil, sound-fixed, sound-byte, sound-if_label, sound-unless_label, sound-jump_end, sound-label}
-use Rattle.rule_items.proofs.Parts.{wide-append, fragment-of}
-use Rattle.rule_items.proofs.Rulings.{sound-counting}
+use Rattle.apf_asm.specs.Building.{fixed, jump_if, jump_unless}
+use Rattle.apf_asm.specs.Fragment.{AreFresh, IsFragment, Emits, labels}
+use Rattle.policy_state.specs.Rulings.{said_of}
+use Rattle.apf_asm.proofs.Forms.{IsSound, stands-here, sound-nil, sound-fixed, sound-byte, sound-if_label, sound-unless_label, sound-jump_end, sound-label, sound-count}
+use Rattle.apf_asm.proofs.Parts.{wide-append, fragment-of}
+use Rattle.policy_state.proofs.Rulings.{has_word}
 use Rattle.apf_generate.specs.RaListing.{section_bytes, section_items, load_of, lifetime_items, dropping_items, compare_items, ra_items}
 use Rattle.apf_generate.proofs.RaRuling.{length-section, ra_tells}
 
@@ -50,7 +51,7 @@ load_jumps true = refl
 load_jumps false = refl
 
 sound-dropping : (away : ℕ) → IsSound (dropping_items ++ (items.Label away ∷ []))
-sound-dropping away = sound-counting DroppedRa _ (sound-jump_end Drop _ (sound-label away [] sound-nil))
+sound-dropping away = sound-count (number_of DroppedRa) _ (has_word DroppedRa) (sound-jump_end Drop _ (sound-label away [] sound-nil))
 
 sound-lifetimes : (away hold end : ℕ) (ss : List Span) → hold < 2 ^ 32 → end ≤ 1514 → AllByRecursion (IsNumber end) ss → IsSound ((flat_map (lifetime_items away hold) ss ++ dropping_items) ++ (items.Label away ∷ []))
 sound-lifetimes away hold end [] lt short h = sound-dropping away

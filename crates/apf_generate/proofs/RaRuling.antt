@@ -24,11 +24,11 @@ use Rattle.policy_state.specs.declared.ruling.Ruling.TheVariants.{Says, Silent}
 use Rattle.policy_state.specs.Asking.{reading, when}
 use Rattle.policy_state.specs.Records.{lasts, advertised_again}
 use Rattle.policy_state.proofs.FieldsSeen.{number_seen, bytes_seen}
-use Rattle.rule_items.specs.Building.{fixed, jump_if}
-use Rattle.rule_items.specs.Saying.{Tells}
-use Rattle.rule_items.specs.Rulings.{said_of}
-use Rattle.rule_items.proofs.Rules.{Yields, done, restated, counts, places, reads_half, reads_word, recalls_0, answers, leaves_if, leaves_unless, labelled, told}
-use Rattle.rule_items.proofs.Rulings.{rulings}
+use Rattle.apf_asm.specs.Building.{fixed, jump_if}
+use Rattle.apf_asm.specs.Saying.{Tells}
+use Rattle.policy_state.specs.Rulings.{said_of}
+use Rattle.apf_asm.proofs.Rules.{Yields, done, restated, counts, places, reads_half, reads_word, recalls_0, answers, leaves_if, leaves_unless, labelled, told}
+use Rattle.policy_state.proofs.Rulings.{rulings}
 use Rattle.apf_generate.specs.RaListing.{section_bytes, section_items, lifetime_items, dropping_items, compare_items, ra_items}
 
 -- ---- the ruling as the items come to it

@@ -11,10 +11,10 @@ use Rattle.data_counters.specs.declared.counter.Counter.{Counter}
 use Rattle.data_counters.specs.Counters.{number_of}
 use Rattle.data_counters.specs.Memory.{place_of, value_of, raised}
 use Rattle.data_counters.proofs.Apart.{IsCounterNumber, number_of-range}
-use Rattle.rule_items.specs.Building.{fixed}
-use Rattle.rule_items.specs.Saying.{counted, with_registers}
-use Rattle.rule_items.proofs.Rules.{chosen}
-use Rattle.rule_items.proofs.Steps.{on, on-next}
+use Rattle.apf_asm.specs.Building.{fixed}
+use Rattle.apf_asm.specs.Saying.{counted, with_registers}
+use Rattle.apf_asm.proofs.Rules.{chosen}
+use Rattle.apf_asm.proofs.Steps.{on, on-next}
 use Rattle.apf_generate.specs.Listing.{raising_items}
 use Rattle.apf_generate.proofs.WordsSeen.{word_seen, store_seen}
 

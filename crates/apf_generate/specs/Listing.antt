@@ -6,8 +6,9 @@ use Rattle.apf_asm.specs.declared.item.Item.{Item}
 use Rattle.apf_asm.specs.declared.item.Item.TheVariants as items
 use Rattle.apf_asm.specs.declared.item.Target.TheVariants as targets
 use Rattle.data_counters.specs.declared.counter.Counter.TheVariants.{PassedIpv6Icmp, PassedNonIpUnicast, DroppedEthBroadcast}
+use Rattle.data_counters.specs.Counters.{number_of}
 use Rattle.policy_state.specs.Ethernet.{broadcast}
-use Rattle.rule_items.specs.Building.{to_end, fixed, load, place, counting, jump_if, jump, jump_unless}
+use Rattle.apf_asm.specs.Building.{to_end, fixed, load, place, count, jump_if, jump, jump_unless}
 
 -- one more in the word at a distance from R1; a distance from 128 on is one of minus 256 more
 abbrev pub raising_items : ℕ → List Item
@@ -23,7 +24,7 @@ ip6_test_items over = load Ldh 12 ∷ jump_if Jne 0x86dd (targets.Label over) �
 
 -- an IPv6 packet that no rule answers
 abbrev pub ip6_last_items : List Item
-ip6_last_items = counting PassedIpv6Icmp ∷ jump (to_end Pass) ∷ []
+ip6_last_items = count (number_of PassedIpv6Icmp) ∷ jump (to_end Pass) ∷ []
 
 -- the question on IPv6, with the items of its rules and of the chosen records
 abbrev pub ip6_items : ℕ → List Item → List Item → List Item
@@ -32,8 +33,8 @@ ip6_items over rules records = ip6_test_items over ++ ((rules ++ (records ++ ip6
 -- all other frames
 abbrev pub last_items : List Item
 last_items =
-    place 0 ∷ counting PassedNonIpUnicast ∷ jump_unless broadcast (to_end Pass)
-    ∷ counting DroppedEthBroadcast ∷ jump (to_end Drop)
+    place 0 ∷ count (number_of PassedNonIpUnicast) ∷ jump_unless broadcast (to_end Pass)
+    ∷ count (number_of DroppedEthBroadcast) ∷ jump (to_end Drop)
     ∷ []
 
 -- the counter that R1 asks for is raised, and the program ends

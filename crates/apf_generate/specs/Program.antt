@@ -6,9 +6,9 @@ use Rattle.policy_state.specs.declared.basis.Chosen.{Chosen}
 use Rattle.policy_state.specs.Asking.{first_of}
 use Rattle.policy_state.specs.Policy.{ip6, questions}
 use Rattle.policy_state.specs.Records.{advertised_again}
-use Rattle.rule_items.specs.Fragment.{IsPart}
-use Rattle.rule_items.specs.Saying.{Said}
-use Rattle.rule_items.specs.Rulings.{said_of}
+use Rattle.apf_asm.specs.Fragment.{IsPart}
+use Rattle.apf_coding.specs.Said.{Said}
+use Rattle.policy_state.specs.Rulings.{said_of}
 use Rattle.apf_generate.specs.Listing.{between_ends}
 use Rattle.apf_generate.specs.Sizes.{weights}
 

@@ -8,10 +8,11 @@ use Rattle.apf_asm.specs.declared.item.Item.{Item}
 use Rattle.apf_asm.specs.declared.item.Item.TheVariants as items
 use Rattle.apf_asm.specs.declared.item.Target.TheVariants as targets
 use Rattle.data_counters.specs.declared.counter.Counter.TheVariants.{DroppedRa}
+use Rattle.data_counters.specs.Counters.{number_of}
 use Rattle.ra_records.specs.declared.span.Span.{Span}
 use Rattle.ra_records.specs.Advert.{sections}
 use Rattle.policy_state.specs.declared.basis.Chosen.{Chosen}
-use Rattle.rule_items.specs.Building.{to_end, fixed, counting, jump_if, jump, jump_unless}
+use Rattle.apf_asm.specs.Building.{to_end, fixed, count, jump_if, jump, jump_unless}
 
 abbrev pub section_bytes : List ℕ → Span → List ℕ
 section_bytes bytes section = slice_range bytes section.at (section.at + section.len)
@@ -28,7 +29,7 @@ abbrev pub lifetime_items : ℕ → ℕ → Span → List Item
 lifetime_items away hold lifetime = fixed (load_of lifetime) 0 2 lifetime.at ∷ jump_if Jlt hold (targets.Label away) ∷ []
 
 abbrev pub dropping_items : List Item
-dropping_items = counting DroppedRa ∷ jump (to_end Drop) ∷ []
+dropping_items = count (number_of DroppedRa) ∷ jump (to_end Drop) ∷ []
 
 -- a frame that is as long as the record
 abbrev pub compare_items : ℕ → Chosen → List Item

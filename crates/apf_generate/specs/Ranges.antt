@@ -1,28 +1,20 @@
 -- What holds of each value of the code by its types and its invariants: numbers lie in their ranges, and records are read
 -- of their bytes. Definitions range over all numbers, so laws that need it say it.
-use Rattle.std.specs.Prelude.{◌≡◌, ℕ, ◌<◌, ◌≤◌, ◌^◌, List, length, slice_index, All, IfSome, Ok}
+use Rattle.std.specs.Prelude.{◌≡◌, ◌<◌, ◌≤◌, ◌^◌, length, All, IfSome, Ok}
+use Rattle.apf_coding.specs.Words.{AreBytes}
 use Rattle.ra_records.specs.Advert.{Advert, lifetimes_in}
+use Rattle.policy_state.specs.Ranges.{IsMac, IsKeepalive}
 use Rattle.policy_state.specs.declared.basis.Basis.{Basis}
 use Rattle.policy_state.specs.declared.basis.Chosen.{Chosen}
 use Rattle.policy_state.specs.declared.basis.Script.{Script}
 use Rattle.policy_state.specs.declared.config.Config.{Config}
 use Rattle.policy_state.specs.declared.state.Address.{Address}
 use Rattle.policy_state.specs.declared.state.FilterState.{FilterState}
-use Rattle.policy_state.specs.declared.state.Keepalive.{Keepalive}
 use Rattle.policy_state.specs.declared.update.Update.{Update}
 use Rattle.policy_state.specs.declared.update.Update.TheVariants.{Multicast, Doze, KeepaliveAdd, KeepaliveRemove}
 use Rattle.policy_state.specs.declared.update.Update.TheVariants as updates
 
--- numbers of 8 bits
-abbrev pub AreBytes : List ℕ → Type 0
-AreBytes bytes = (k : ℕ) → slice_index bytes k < 256
-
 -- ---- configuration
-
--- six bytes
-pub record IsMac (mac : List ℕ) : Type 0 where
-  pub six : length mac ≡ 6
-  pub bytes : AreBytes mac
 
 -- a MAC and ethertypes; the capacity and the number of the ethertypes are bounded by the type itself
 pub record IsConfig (config : Config) : Type 0 where
@@ -35,15 +27,6 @@ pub record IsConfig (config : Config) : Type 0 where
 pub record IsAddress (address : Address) : Type 0 where
   pub ip : address.ip < 2 ^ 32
   pub prefix : address.prefix ≤ 32
-
--- numbers of 32 bits, and ports of 16
-pub record IsKeepalive (sent : Keepalive) : Type 0 where
-  pub local : sent.local < 2 ^ 32
-  pub local_port : sent.local_port < 2 ^ 16
-  pub remote : sent.remote < 2 ^ 32
-  pub remote_port : sent.remote_port < 2 ^ 16
-  pub sequence : sent.sequence < 2 ^ 32
-  pub acknowledgement : sent.acknowledgement < 2 ^ 32
 
 -- an address or none, and eight slots with a keepalive or none
 pub record IsState (state : FilterState) : Type 0 where

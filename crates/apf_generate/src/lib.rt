@@ -4,6 +4,7 @@
 //! policy's verdict, and raises the counters that the policy names. Its length is bounded by the basis.
 #![tactic(auto)]
 
+mod items;
 mod laws;
 mod program;
 mod ra;

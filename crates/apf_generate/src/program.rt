@@ -4,19 +4,21 @@ ghost use Rattle.std.specs.Prelude.{◌≡◌, ◌≤◌, ◌++◌, length, IfOk
 ghost use Rattle.apf_generate.specs.Means.{Means};
 ghost use Rattle.apf_generate.specs.Listing.{raising_items, ip6_test_items, ip6_last_items, last_items, end_items};
 ghost use Rattle.apf_generate.specs.Program.{AddsIp6, IsProgram};
-ghost use Rattle.apf_generate.specs.Ranges.{AreBytes};
+ghost use Rattle.apf_coding.specs.Words.{AreBytes};
 ghost use Rattle.apf_generate.specs.Sizes.{need_of};
 ghost use Rattle.size_fit.specs.Sizes.{limit_of};
 
+use crate::items::counting;
 use crate::ra::add_records;
-use apf_asm::{AsmError, Item, Target, assemble_bytes};
+use apf_asm::{
+    AsmError, Item, Target, assemble_bytes, fixed, jump, jump_if, jump_unless, load, place, to_end,
+};
 use apf_base::{List, OutOfMemory};
 use apf_coding::{Op, Verdict};
 use arp_rules::{emit_arp, emit_link};
 use data_counters::Counter;
 use ip_rules::{emit_ip4, emit_ip6};
 use policy_state::Basis;
-use rule_items::{counting, fixed, jump, jump_if, jump_unless, load, place, to_end};
 use std::alloc::Global;
 
 /// The broadcast MAC.

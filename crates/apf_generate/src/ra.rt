@@ -5,19 +5,19 @@ ghost use Rattle.ra_records.specs.Masks.{IsWithin};
 ghost use Rattle.ra_records.specs.Advert.{IsSound};
 ghost use Rattle.size_fit.specs.Sizes.{weight};
 ghost use Rattle.policy_state.specs.Records.{advertised_again};
-ghost use Rattle.rule_items.specs.Fragment.{Emits};
-ghost use Rattle.rule_items.specs.Rulings.{said_of};
+ghost use Rattle.apf_asm.specs.Fragment.{Emits};
+ghost use Rattle.policy_state.specs.Rulings.{said_of};
 ghost use Rattle.apf_generate.specs.Program.{AddsRecords};
 ghost use Rattle.apf_coding.specs.Writing.{Extends};
 ghost use Rattle.apf_generate.specs.RaListing.{section_items, lifetime_items, ra_items};
 
-use apf_asm::{Item, Target};
+use crate::items::counting;
+use apf_asm::{Item, Target, fixed, jump, jump_if, jump_unless, to_end};
 use apf_base::{List, OutOfMemory};
 use apf_coding::{Op, Verdict};
 use data_counters::Counter;
 use policy_state::Chosen;
 use ra_records::Span;
-use rule_items::{counting, fixed, jump, jump_if, jump_unless, to_end};
 use std::alloc::Global;
 
 /// Compares all sections of the frame with those of some bytes.

@@ -1,10 +1,11 @@
 -- The lines of a replay that broke off can be completed to those that are defined.
-use Rattle.std.proofs.Common.{◌≡◌, ◌≤◌, ◌+◌, ℕ, List, [], ◌∷◌, ◌++◌, length, length-drop, drop, map, All, Bool, true, ltb, Option, None, Some, Result, Ok, Err, refl, ap, subst, ◌∙◌, arith, suc, zero}
+use Rattle.std.proofs.Common.{◌≡◌, ◌≤◌, ◌+◌, ℕ, List, [], ◌∷◌, ◌++◌, length, length-drop, drop, map, All, Bool, Option, None, Some, Result, Ok, Err, refl, ap, subst, ◌∙◌, arith, suc, zero}
 use Rattle.std.specs.Prelude.{⊤}
 use Rattle.std.proofs.lemmas.List.Elements.{All-head, All-tail, All-nil, All-cons}
 use Rattle.apf_coding.proofs.Numbers.{AreBytes-take, AreBytes-drop}
 use Rattle.apf_generate.proofs.Existing.{program_exists}
-use Rattle.apf_generate.specs.Ranges.{AreBytes, IsScript}
+use Rattle.apf_generate.specs.Ranges.{IsScript}
+use Rattle.apf_coding.specs.Words.{AreBytes}
 use Rattle.pcap_files.specs.Capture.{capture, captured, frame_of, head_of, record_at, records_from}
 use Rattle.pcap_files.specs.declared.kinds.Kind.{Kind}
 use Rattle.pcap_files.specs.declared.fault.PcapError.{PcapError}

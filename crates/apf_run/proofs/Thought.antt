@@ -1,11 +1,6 @@
 -- What is worked out between reading and writing goes by its part of the plan.
-use Rattle.std.proofs.Common.{◌≡◌, ◌≤◌, ◌<◌, ◌⊎◌, inl, inr, ℕ, List, Bool, true, false, cond, ltb, Option, None, Some, Result, Ok, Err, refl, sym, ap, subst, ◌∙◌}
+use Rattle.std.proofs.Common.{◌≡◌, ◌≤◌, ◌<◌, ℕ, List, Bool, true, false, cond, ltb, Option, None, Some, Result, Ok, Err, refl, sym, ap, subst, ◌∙◌}
 use Rattle.std.proofs.lemmas.Bool.{le-ltb, lt-ltb}
-use Rattle.apf_asm.specs.declared.item.Item.{Item}
-use Rattle.apf_asm.specs.declared.item.AsmError.{AsmError}
-use Rattle.apf_asm.specs.declared.item.AsmError.TheVariants as labels
-use Rattle.apf_asm.specs.Layout.{layout}
-use Rattle.apf_asm.specs.Refusals.{answer}
 use Rattle.size_fit.specs.Sizes.{base, base_for, limit_of, limit_for}
 use Rattle.policy_state.specs.declared.basis.Basis.{Basis}
 use Rattle.policy_state.specs.declared.basis.Script.{Script}
@@ -16,52 +11,15 @@ use Rattle.script_text.specs.declared.script_error.ScriptError.{ScriptError}
 use Rattle.script_text.specs.declared.script_error.ScriptError.TheVariants.{Bad}
 use Rattle.script_text.specs.declared.script_error.ScriptKind.{ScriptKind}
 use Rattle.command_plan.specs.declared.fault.Refusal.{Refusal}
-use Rattle.command_plan.specs.declared.fault.Refusal.TheVariants.{BadScript, Twice, Unknown, Backward, CodeTooLong, TooLarge}
-use Rattle.command_plan.specs.declared.fault.Fault.{Fault}
+use Rattle.command_plan.specs.declared.fault.Refusal.TheVariants.{BadScript, TooLarge}
 use Rattle.command_plan.specs.declared.fault.Fault.TheVariants as faults
-use Rattle.command_plan.specs.Follows.{Stage, Follows, Thinks}
-use Rattle.command_plan.specs.Plan.{Done, picks, unless, ◌>>=◌}
+use Rattle.command_plan.specs.Follows.{Follows, Thinks}
+use Rattle.command_plan.specs.Plan.{picks, unless}
 use Rattle.command_plan.proofs.Following.{done, fails, picked, refused, then_on}
 use Rattle.command_plan.proofs.Texts.{ended}
-use Rattle.apf_run.specs.Asm.{accepts, assembles}
 use Rattle.apf_run.specs.Filter.{reads_script, says_something}
 use Rattle.apf_run.specs.Program.{IsBasisOf, IsCodeOf, generates, room_refusal}
 use Rattle.apf_run.specs.Settings.{Setting}
-
--- ---- `asm`
-
-module _ (items : List Item) where
-  pub has_code : (bytes : List ℕ) → answer items ≡ None → bytes ≡ (layout items).bytes → Thinks (assembles items) (Ok bytes)
-  has_code bytes none is = record {
-    at = λ s.
-        then_on (accepts (answer items)) (λ _. Done (layout items).bytes) tt s s s (Ok bytes)
-        (subst (λ (o : Option AsmError). Follows (accepts o) s s (Ok tt)) (sym none) (done tt s (Ok tt) refl))
-        (done (layout items).bytes s (Ok bytes) (ap (λ (l : List ℕ). Ok l) is));
-  }
-
-  -- the refusal of an error that isn't want of memory
-  abbrev Refuses : AsmError → Refusal → Type 0
-  Refuses (labels.Twice item label) refusal = refusal ≡ Twice item label
-  Refuses (labels.Unknown item label) refusal = refusal ≡ Unknown item label
-  Refuses (labels.Backward item label) refusal = refusal ≡ Backward item label
-  Refuses (labels.TooLong bytes) refusal = refusal ≡ CodeTooLong
-  Refuses labels.OutOfMemory refusal = ⊥
-
-  refuses : (error : AsmError) (refusal : Refusal) (s : Stage) → Refuses error refusal → Follows (accepts (Some error)) s s (Err (faults.Refused refusal))
-  refuses (labels.Twice item label) refusal s is = refused (Twice item label) s _ (ap (λ (r : Refusal). Err (faults.Refused r)) is)
-  refuses (labels.Unknown item label) refusal s is = refused (Unknown item label) s _ (ap (λ (r : Refusal). Err (faults.Refused r)) is)
-  refuses (labels.Backward item label) refusal s is = refused (Backward item label) s _ (ap (λ (r : Refusal). Err (faults.Refused r)) is)
-  refuses (labels.TooLong bytes) refusal s is = refused CodeTooLong s _ (ap (λ (r : Refusal). Err (faults.Refused r)) is)
-  refuses labels.OutOfMemory refusal s is = absurd is
-
-  pub has_no_code : (error known : AsmError) (refusal : Refusal) → error ≡ known → (error ≡ labels.OutOfMemory) ⊎ (answer items ≡ Some error) → Refuses known refusal
-      → Thinks (assembles items) (Err (faults.Refused refusal))
-  has_no_code error known refusal same (inl lacks) is = absurd (subst (λ (e : AsmError). Refuses e refusal) (sym same ∙ lacks) is)
-  has_no_code error known refusal same (inr found) is = record {
-    at = λ s.
-        fails (accepts (answer items)) (λ _. Done (layout items).bytes) (faults.Refused refusal) s s _ refl
-        (subst (λ (o : Option AsmError). Follows (accepts o) s s (Err (faults.Refused refusal))) (sym (found ∙ ap (λ (e : AsmError). Some e) same)) (refuses known refusal s is));
-  }
 
 -- ---- `program`
 

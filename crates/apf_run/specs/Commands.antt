@@ -2,9 +2,9 @@
 use Rattle.std.specs.Prelude.{◌≡◌, ◌∷◌, ℕ, List, codes, Option, None, Some}
 use Rattle.command_line.specs.Lines.{Line, Further, one, two, three, four, split_of}
 use Rattle.command_plan.specs.Meaning.{Meaning, nothing, command, named}
-use Rattle.apf_run.specs.Asm.{asm_plan}
-use Rattle.apf_run.specs.Disasm.{disasm_plan}
-use Rattle.apf_run.specs.Exec.{exec_meaning}
+use Rattle.code_commands.specs.Asm.{asm_plan}
+use Rattle.code_commands.specs.Disasm.{disasm_plan}
+use Rattle.code_commands.specs.Exec.{exec_meaning}
 use Rattle.apf_run.specs.Filter.{filter_plan}
 use Rattle.apf_run.specs.Make.{make_meaning}
 use Rattle.apf_run.specs.Program.{program_meaning}

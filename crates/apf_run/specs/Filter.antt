@@ -17,11 +17,11 @@ use Rattle.filter_report.specs.Along.{Reporting, InCourse}
 use Rattle.filter_report.specs.Arrivals.{arrivals_of}
 use Rattle.filter_report.specs.Report.{IsReport, IsStory, Tells}
 use Rattle.command_plan.specs.Files.{input}
-use Rattle.command_plan.specs.Plan.{Plan, Done, Refuse, ◌>>=◌, asks, picks, says, texts, never, unless}
+use Rattle.command_plan.specs.Plan.{Plan, ◌>>=◌, MayHold, Done, Refuse, asks, picks, says, says_some, never, unless}
 use Rattle.command_plan.specs.declared.fault.FileKind.TheVariants as files
 use Rattle.command_plan.specs.declared.fault.Refusal.{Refusal}
 use Rattle.command_plan.specs.declared.fault.Refusal.TheVariants.{BadScript, TooLarge}
-use Rattle.apf_run.specs.Exec.{refusal_by}
+use Rattle.code_commands.specs.Exec.{refusal_by}
 
 -- ---- the script
 
@@ -69,7 +69,7 @@ IsReplayed script bytes lines = TellsAll (capture bytes).end script (arrivals_of
 
 -- the lines behind the first one
 abbrev pub replays : Script → List ℕ → List ℕ → Plan (Unit {0})
-replays script line bytes = texts (λ more. IsReplayed script bytes (line ∷ more)) (refusal_by (capture bytes).end)
+replays script line bytes = says_some (λ more. IsReplayed script bytes (line ∷ more)) (refusal_by (capture bytes).end)
 
 -- ---- the whole
 
@@ -87,13 +87,12 @@ filter_plan script capture = do
   read ← reads_script text
   filters read capture
 
--- THE HEADLINE: of a text and a capture, the report of the script that the text is the text of was written, and nothing
--- else.
-abbrev pub IsFiltered : List ℕ → List ℕ → Option (List ℕ) → Option (List ℕ) → Type 0
-IsFiltered text bytes old new =
-    (script : Script) × IsScriptText text script
-    × (lines : List (List ℕ)) × IsReport script (arrivals_of bytes (capture bytes).list) lines
-    × AppendsAll old new lines
+-- Of a script whose file may be told, the line of the first install was written, and nothing else.
+abbrev pub HasOnlyBegun : Option (List ℕ) → Option (List ℕ) → Option (List ℕ) → Type 0
+HasOnlyBegun told old new =
+    (text : List ℕ) × MayHold (input files.Script 1) told text
+    × (script : Script) × IsScriptText text script
+    × (line : List ℕ) × IsFirst script line × AppendsAll old new (line ∷ [])
 
 -- ---- parts of the command
 

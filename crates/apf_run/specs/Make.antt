@@ -2,7 +2,8 @@
 use Rattle.std.specs.Prelude.{◌≡◌, ℕ, List, [], ◌∷◌, map}
 use Rattle.std.specs.List.{range_with_len}
 use Rattle.policy_state.specs.declared.basis.Script.{Script}
-use Rattle.pcap_files.specs.Capture.{capture, head_bytes}
+use Rattle.pcap_files.specs.Capture.{capture}
+use Rattle.pcap_files.specs.Writing.{head_bytes}
 use Rattle.script_text.specs.Scripts.{IsScriptText}
 use Rattle.filter_core.specs.Replay.{Arrival, begun, course, finished, totals}
 use Rattle.filter_report.specs.Along.{Reporting, InCourse}

@@ -2,7 +2,7 @@
 use Rattle.std.specs.Prelude.{◌≡◌, ◌≤◌, nat_lt, if◌then◌else◌, List, [], ◌∷◌, ◌++◌, ℕ, length, replicate, codes, Option, None, Some}
 use Rattle.hex.specs.Hex.{encode_lower}
 use Rattle.apf_generate.specs.Means.{Means}
-use Rattle.apf_generate.specs.Ranges.{AreBytes}
+use Rattle.apf_coding.specs.Words.{AreBytes}
 use Rattle.apf_generate.specs.Sizes.{need_of}
 use Rattle.policy_state.specs.declared.basis.Basis.{Basis}
 use Rattle.policy_state.specs.declared.state.FilterState.{FilterState}

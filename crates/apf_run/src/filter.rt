@@ -8,7 +8,6 @@ ghost use Rattle.command_plan.specs.Follows.{Follows, Thinks, Writes, answer, st
 ghost use Rattle.command_plan.specs.Plan.{MayFetch};
 ghost use Rattle.apf_run.specs.Filter.{HasBegun, begins, filter_plan, filters, reads_script, replays};
 
-use crate::exec::CAPTURE;
 use apf_base::{Shelf, Sink, Source};
 use command_plan::{Fault, FileKind, Files, Input, Lines, Refusal};
 use filter_report::Filtering;
@@ -21,6 +20,12 @@ use std::alloc::Global;
 const SCRIPT: Input = Input {
     kind: FileKind::Script,
     word: 1,
+};
+
+/// The file of a capture.
+const CAPTURE: Input = Input {
+    kind: FileKind::Capture,
+    word: 2,
 };
 
 // The script of a text.

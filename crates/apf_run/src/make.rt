@@ -5,7 +5,7 @@ ghost use Rattle.std.specs.Prelude.{◌≡◌, ◌≢◌, ◌≤◌, ◌<◌, �
 ghost use Rattle.std.specs.List.{range_with_len};
 ghost use Rattle.made_input.specs.MadeCaptures.{made_kind, made_record};
 ghost use Rattle.made_input.specs.MadeScripts.{doze_line, ended, made_contents, opening};
-ghost use Rattle.pcap_files.specs.Capture.{head_bytes};
+ghost use Rattle.pcap_files.specs.Writing.{head_bytes};
 ghost use Rattle.script_text.specs.ScriptLines.{contents_of};
 ghost use Rattle.command_plan.specs.Follows.{Shelving, Writes, stage};
 ghost use Rattle.command_plan.specs.Meaning.{Does};

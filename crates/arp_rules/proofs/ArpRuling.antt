@@ -20,11 +20,11 @@ use Rattle.policy_state.specs.Ethernet.{ethertype, destination, broadcast}
 use Rattle.policy_state.specs.Policy.{arp_opening, arp_operation, arp_sender, arp_target, gratuitous_arp, arp_for_other_hosts, arp_lines, arp}
 use Rattle.policy_state.proofs.AskingLaws.{otherwise-assoc, otherwise-silent, reading-cond, when-not}
 use Rattle.policy_state.proofs.FieldsSeen.{number_seen, bytes_seen}
-use Rattle.rule_items.specs.Saying.{Tells}
-use Rattle.rule_items.proofs.Rules.{Yields, done, restated, counts, places, reads_half, reads_word, answers, answers_if, answers_unless, skips_if, told}
+use Rattle.apf_asm.specs.Saying.{Tells}
+use Rattle.apf_asm.proofs.Rules.{Yields, done, restated, counts, places, reads_half, reads_word, answers, answers_if, answers_unless, skips_if, told}
 use Rattle.arp_rules.specs.Listing.{reply_items, target_items, operation_items, packet_items, arp_items}
-use Rattle.rule_items.specs.Rulings.{said_of}
-use Rattle.rule_items.proofs.Rulings.{rulings}
+use Rattle.policy_state.specs.Rulings.{said_of}
+use Rattle.policy_state.proofs.Rulings.{rulings}
 
 -- ---- the rulings as the items come to them
 

@@ -4,9 +4,9 @@ use Rattle.std.specs.Prelude.{All}
 use Rattle.apf_asm.specs.declared.item.Item.{Item}
 use Rattle.policy_state.specs.declared.basis.Basis.{Basis}
 use Rattle.policy_state.specs.Policy.{link, arp}
-use Rattle.rule_items.specs.Fragment.{Emits, IsFragment}
+use Rattle.apf_asm.specs.Fragment.{Emits, IsFragment}
 use Rattle.arp_rules.specs.Listing.{link_items, arp_items, IsInRange}
-use Rattle.rule_items.specs.Rulings.{said_of}
+use Rattle.policy_state.specs.Rulings.{said_of}
 use Rattle.arp_rules.proofs.LinkRuling.{link_tells}
 use Rattle.arp_rules.proofs.ArpRuling.{arp_tells}
 use Rattle.arp_rules.proofs.Sound.{link_fragment, arp_fragment}

@@ -14,11 +14,11 @@ use Rattle.policy_state.specs.Ethernet.{ethertype}
 use Rattle.policy_state.specs.Policy.{is_denied, link}
 use Rattle.policy_state.proofs.AskingLaws.{otherwise-silent, otherwise-when}
 use Rattle.policy_state.proofs.FieldsSeen.{number_seen}
-use Rattle.rule_items.specs.Saying.{counted, Tells}
-use Rattle.rule_items.proofs.Rules.{Yields, done, restated, counts, reads_half, answers_if, told}
+use Rattle.apf_asm.specs.Saying.{counted, Tells}
+use Rattle.apf_asm.proofs.Rules.{Yields, done, restated, counts, reads_half, answers_if, told}
 use Rattle.arp_rules.specs.Listing.{length_items, deny_items, denied_items, link_items}
-use Rattle.rule_items.specs.Rulings.{said_of}
-use Rattle.rule_items.proofs.Rulings.{rulings}
+use Rattle.policy_state.specs.Rulings.{said_of}
+use Rattle.policy_state.proofs.Rulings.{rulings}
 
 abbrev too_short : Ruling
 too_short = Says Drop Dropped8023Frame

@@ -9,16 +9,17 @@ use Rattle.apf_asm.specs.declared.item.Item.{Item}
 use Rattle.apf_asm.specs.declared.item.Item.TheVariants as items
 use Rattle.apf_asm.specs.Layout.{wide_size, wide_length}
 use Rattle.data_counters.specs.declared.counter.Counter.TheVariants.{PassedArp, PassedArpNonIpv4, PassedArpUnknown, PassedArpUnicastReply, Dropped8023Frame, DroppedEthertypeDenied, DroppedArpReplySpaNoHost, DroppedGarpReply, DroppedArpOtherHost}
+use Rattle.data_counters.specs.Counters.{number_of}
 use Rattle.policy_state.specs.declared.basis.Basis.{Basis}
 use Rattle.policy_state.specs.declared.state.Address.{Address}
 use Rattle.policy_state.specs.Ethernet.{broadcast}
 use Rattle.policy_state.specs.Policy.{arp_opening}
-use Rattle.rule_items.specs.Building.{to_end, load, counting, jump_if}
-use Rattle.rule_items.specs.Fragment.{AreFresh, IsFragment, labels}
-use Rattle.rule_items.proofs.Forms.{IsSound, stands-here, bytes_fit, sound-nil, sound-append, sound-byte, sound-if_end, sound-if_label, sound-jump_end, sound-unless_end, sound-label}
-use Rattle.rule_items.proofs.Parts.{fragment-of}
+use Rattle.apf_asm.specs.Building.{to_end, load, count, jump_if}
+use Rattle.apf_asm.specs.Fragment.{AreFresh, IsFragment, labels}
+use Rattle.apf_asm.proofs.Forms.{IsSound, stands-here, bytes_fit, sound-nil, sound-append, sound-byte, sound-if_end, sound-if_label, sound-jump_end, sound-unless_end, sound-label, sound-count}
+use Rattle.apf_asm.proofs.Parts.{fragment-of}
 use Rattle.arp_rules.specs.Listing.{length_items, deny_items, denied_items, link_items, reply_items, target_items, packet_items, arp_items, IsInRange}
-use Rattle.rule_items.proofs.Rulings.{sound-counting}
+use Rattle.policy_state.proofs.Rulings.{has_word}
 
 -- ---- the Ethernet header
 
@@ -29,7 +30,7 @@ sound-deny (d ∷ deny) fits =
     sound-if_end Jeq d Drop (deny_items deny) refl (omega arith) (sound-deny deny (All-tail (λ d. d < 2 ^ 16) d deny fits))
 
 sound-length : (on : Bool) (xs : List Item) → IsSound xs → IsSound (length_items on ++ xs)
-sound-length true xs s = sound-counting Dropped8023Frame _ (sound-if_end Jlt 0x600 Drop xs refl (lit< tt) s)
+sound-length true xs s = sound-count (number_of Dropped8023Frame) _ (has_word Dropped8023Frame) (sound-if_end Jlt 0x600 Drop xs refl (lit< tt) s)
 sound-length false xs s = s
 
 wide-deny : (deny : List ℕ) → wide_length (deny_items deny) ≡ 9 * length deny
@@ -52,7 +53,7 @@ wide-link basis =
       arith,
       sum_by-append wide_size (load Ldh 12 ∷ length_items basis.config.drop_802_3) (denied_items basis.config.deny),
       wide-length basis.config.drop_802_3,
-      sum_by-cons wide_size (counting DroppedEthertypeDenied) (deny_items basis.config.deny),
+      sum_by-cons wide_size (count (number_of DroppedEthertypeDenied)) (deny_items basis.config.deny),
       wide-deny basis.config.deny,
     )
   where
@@ -70,7 +71,7 @@ link_fragment basis next fits =
     let deny = basis.config.deny in
     let on = basis.config.drop_802_3 in
     fragment-of next next _ (link_items basis)
-    (sound-byte Ldh 0 12 _ refl (lit< tt) (lit< tt) (sound-length on (denied_items deny) (sound-counting DroppedEthertypeDenied _ (sound-deny deny fits))))
+    (sound-byte Ldh 0 12 _ refl (lit< tt) (lit< tt) (sound-length on (denied_items deny) (sound-count (number_of DroppedEthertypeDenied) _ (has_word DroppedEthertypeDenied) (sound-deny deny fits))))
     (omega arith)
     (fresh-none next _ (labels-link on deny))
     (omega (arith, ap length (labels-link on deny)))
@@ -80,21 +81,21 @@ link_fragment basis next fits =
 
 sound-reply : IsSound reply_items
 sound-reply =
-    sound-counting PassedArpUnknown _ (sound-if_end Jne 2 Pass _ refl (lit< tt)
-    (sound-byte Ldw 0 28 _ refl (lit< tt) (lit< tt) (sound-counting DroppedArpReplySpaNoHost _ (sound-if_end Jeq 0 Drop _ refl (lit< tt)
-    (sound-byte Li 0 0 _ refl (lit< tt) (lit< tt) (sound-counting PassedArpUnicastReply _ (sound-unless_end broadcast Pass [] (lit< tt) (lit≤ tt) (bytes_fit broadcast refl) sound-nil)))))))
+    sound-count (number_of PassedArpUnknown) _ (has_word PassedArpUnknown) (sound-if_end Jne 2 Pass _ refl (lit< tt)
+    (sound-byte Ldw 0 28 _ refl (lit< tt) (lit< tt) (sound-count (number_of DroppedArpReplySpaNoHost) _ (has_word DroppedArpReplySpaNoHost) (sound-if_end Jeq 0 Drop _ refl (lit< tt)
+    (sound-byte Li 0 0 _ refl (lit< tt) (lit< tt) (sound-count (number_of PassedArpUnicastReply) _ (has_word PassedArpUnicastReply) (sound-unless_end broadcast Pass [] (lit< tt) (lit≤ tt) (bytes_fit broadcast refl) sound-nil)))))))
 
 sound-target : (address : Option Address) → IsInRange address → IsSound (target_items address)
 sound-target None fits =
-    sound-byte Ldw 0 38 _ refl (lit< tt) (lit< tt) (sound-counting DroppedGarpReply _ (sound-if_end Jeq 0 Drop _ refl (lit< tt)
-    (sound-counting PassedArp _ (sound-jump_end Pass [] sound-nil))))
+    sound-byte Ldw 0 38 _ refl (lit< tt) (lit< tt) (sound-count (number_of DroppedGarpReply) _ (has_word DroppedGarpReply) (sound-if_end Jeq 0 Drop _ refl (lit< tt)
+    (sound-count (number_of PassedArp) _ (has_word PassedArp) (sound-jump_end Pass [] sound-nil))))
 sound-target (Some address) fits =
-    sound-byte Ldw 0 38 _ refl (lit< tt) (lit< tt) (sound-counting DroppedArpOtherHost _ (sound-if_end Jne address.ip Drop _ refl fits
-    (sound-counting PassedArp _ (sound-jump_end Pass [] sound-nil))))
+    sound-byte Ldw 0 38 _ refl (lit< tt) (lit< tt) (sound-count (number_of DroppedArpOtherHost) _ (has_word DroppedArpOtherHost) (sound-if_end Jne address.ip Drop _ refl fits
+    (sound-count (number_of PassedArp) _ (has_word PassedArp) (sound-jump_end Pass [] sound-nil))))
 
 sound-packet : (request : ℕ) (address : Option Address) → IsInRange address → IsSound (packet_items request address)
 sound-packet request address fits =
-    sound-byte Li 0 14 _ refl (lit< tt) (lit< tt) (sound-counting PassedArpNonIpv4 _ (sound-unless_end arp_opening Pass _ (lit< tt) (lit≤ tt) (bytes_fit arp_opening refl)
+    sound-byte Li 0 14 _ refl (lit< tt) (lit< tt) (sound-count (number_of PassedArpNonIpv4) _ (has_word PassedArpNonIpv4) (sound-unless_end arp_opening Pass _ (lit< tt) (lit≤ tt) (bytes_fit arp_opening refl)
     (sound-byte Ldh 0 20 _ refl (lit< tt) (lit< tt)
     (sound-if_label Jeq 1 request (reply_items ++ (items.Label request ∷ target_items address)) refl (lit< tt) (stands-here request reply_items (target_items address))
     (sound-append reply_items (items.Label request ∷ target_items address) sound-reply (sound-label request (target_items address) (sound-target address fits)))))))

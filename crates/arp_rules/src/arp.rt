@@ -3,16 +3,15 @@
 ghost use Rattle.std.specs.Prelude.{◌≡◌, ◌+◌, ◌≤◌, ◌++◌, OnOk, OnErr};
 ghost use Rattle.apf_coding.specs.Writing.{Extends};
 ghost use Rattle.policy_state.specs.Policy.{arp};
-ghost use Rattle.rule_items.specs.Fragment.{Emits};
+ghost use Rattle.apf_asm.specs.Fragment.{Emits};
 ghost use Rattle.arp_rules.specs.Listing.{reply_items, target_items, packet_items, arp_items, IsInRange};
-ghost use Rattle.rule_items.specs.Rulings.{said_of};
+ghost use Rattle.policy_state.specs.Rulings.{said_of};
 
-use apf_asm::{Item, Target};
+use apf_asm::{Item, Target, count, jump, jump_if, jump_unless, load, place, to_end};
 use apf_base::{List, OutOfMemory};
 use apf_coding::{Op, Verdict};
 use data_counters::Counter;
 use policy_state::{Address, Basis};
-use rule_items::{counting, jump, jump_if, jump_unless, load, place, to_end};
 use std::alloc::Global;
 
 /// The broadcast MAC.
@@ -30,13 +29,13 @@ fn add_replies(alloc: Global, out: &mut List<Item>) -> Result<(), OutOfMemory>
     out.append(List::of(
         alloc,
         [
-            counting(alloc, Counter::PassedArpUnknown),
+            count(alloc, Counter::PassedArpUnknown.number()),
             jump_if(alloc, Op::Jne, 2, to_end(Verdict::Pass)),
             load(alloc, Op::Ldw, 28),
-            counting(alloc, Counter::DroppedArpReplySpaNoHost),
+            count(alloc, Counter::DroppedArpReplySpaNoHost.number()),
             jump_if(alloc, Op::Jeq, 0, to_end(Verdict::Drop)),
             place(alloc, 0),
-            counting(alloc, Counter::PassedArpUnicastReply),
+            count(alloc, Counter::PassedArpUnicastReply.number()),
             unicast,
         ],
     )?)
@@ -60,9 +59,9 @@ fn add_target(
         alloc,
         [
             load(alloc, Op::Ldw, 38),
-            counting(alloc, counter),
+            count(alloc, counter.number()),
             jump_if(alloc, op, number, to_end(Verdict::Drop)),
-            counting(alloc, Counter::PassedArp),
+            count(alloc, Counter::PassedArp.number()),
             jump(alloc, to_end(Verdict::Pass)),
         ],
     )?)
@@ -84,7 +83,7 @@ fn add_packet(
         alloc,
         [
             place(alloc, 14),
-            counting(alloc, Counter::PassedArpNonIpv4),
+            count(alloc, Counter::PassedArpNonIpv4.number()),
             other,
             load(alloc, Op::Ldh, 20),
             jump_if(alloc, Op::Jeq, 1, Target::Label(request)),

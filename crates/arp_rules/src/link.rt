@@ -4,17 +4,16 @@ ghost use Rattle.std.specs.Prelude.{◌≡◌, ◌+◌, ◌*◌, ◌≤◌, ◌<
 ghost use Rattle.apf_coding.specs.Writing.{Extends};
 ghost use Rattle.apf_coding.specs.declared.instruction.Op.TheVariants.{Ldh};
 ghost use Rattle.policy_state.specs.Policy.{link};
-ghost use Rattle.rule_items.specs.Building.{load};
-ghost use Rattle.rule_items.specs.Fragment.{Emits};
+ghost use Rattle.apf_asm.specs.Building.{load};
+ghost use Rattle.apf_asm.specs.Fragment.{Emits};
 ghost use Rattle.arp_rules.specs.Listing.{length_items, denied_items, link_items};
-ghost use Rattle.rule_items.specs.Rulings.{said_of};
+ghost use Rattle.policy_state.specs.Rulings.{said_of};
 
-use apf_asm::Item;
+use apf_asm::{Item, count, jump_if, load, to_end};
 use apf_base::{List, OutOfMemory};
 use apf_coding::{Op, Verdict};
 use data_counters::Counter;
 use policy_state::Basis;
-use rule_items::{counting, jump_if, load, to_end};
 use std::alloc::Global;
 
 /// Denied ethertypes, with the ethertype in R0. An `Err` leaves a part of the items.
@@ -23,7 +22,7 @@ fn add_denied(alloc: Global, deny: &[u16], out: &mut List<Item>) -> Result<(), O
     ensures fits { OnOk result (All (λ d. d < 2 ^ 16) deny.now) }
     ensures err { OnErr result (Extends out.old out.new) }
 {
-    out.push(counting(alloc, Counter::DroppedEthertypeDenied))?;
+    out.push(count(alloc, Counter::DroppedEthertypeDenied.number()))?;
     for denied in deny {
         out.push(jump_if(alloc, Op::Jeq, u32::from(*denied), to_end(Verdict::Drop)))?;
     }
@@ -37,7 +36,7 @@ fn add_length(alloc: Global, drops: bool, out: &mut List<Item>) -> Result<(), Ou
 {
     out.push(load(alloc, Op::Ldh, 12))?;
     if drops {
-        out.push(counting(alloc, Counter::Dropped8023Frame))?;
+        out.push(count(alloc, Counter::Dropped8023Frame.number()))?;
         out.push(jump_if(alloc, Op::Jlt, 0x600, to_end(Verdict::Drop)))?;
     }
     Ok(())

@@ -10,11 +10,13 @@ use Rattle.command_plan.specs.declared.fault.Refusal.{Refusal}
 use Rattle.command_plan.specs.declared.fault.Refusal.TheVariants.{BadCapture, BadScript, BadText, Twice, Unknown, Backward, TooLong, CodeTooLong, TooLarge}
 use Rattle.command_plan.specs.declared.fault.Fault.{Fault}
 use Rattle.command_plan.specs.declared.fault.Fault.TheVariants as faults
+use Rattle.command_plan.specs.Files.{FileFails}
+use Rattle.command_plan.specs.declared.fault.Input.{Input}
 use Rattle.command_plan.specs.Ending.{MayEnd, Leaves, IsOwn, Calm}
 use Rattle.command_plan.specs.Meaning.{Meaning, nothing, command, IsAccepted, Does, IsQuietFor, MayEndBy, ReadsWholeFor}
 use Rattle.command_plan.specs.Status.{status_of, refusal_status}
 use Rattle.command_plan.specs.Plan.{Plan, Done, Refuse, Ask, Pick, Say, IsQuiet, MayRefuse, ReadsWhole}
-use Rattle.command_plan.specs.Follows.{Stage, Later, Idle, Rests, EndsHere, Asks, Picks, Says, Ends, Follows}
+use Rattle.command_plan.specs.Follows.{Stage, Later, Asks, Picks, Says, Ends, Follows}
 use Rattle.command_plan.specs.Follows as f
 use Rattle.command_plan.proofs.Saying.{all_and_all, all_and_front}
 use Rattle.command_plan.proofs.Stages.{later_trans, rose_before, Appends-before, front_before, keeps_nil, no_fault}
@@ -159,14 +161,18 @@ module _ {A : Type 0} where
   own a b (Err (faults.Open input)) h q = absurd (q.misses h)
   own a b (Err faults.Write) h q = absurd (q.out_faults h)
 
-  own_leaves : (old new : Option (List ℕ)) (lines : List (List ℕ)) (r : Result A Fault) → IsOwn r → Leaves old new lines r → AppendsAll old new lines
-  own_leaves old new lines (Ok x) o h = h
-  own_leaves old new lines (Err (faults.Refused refusal)) o h = h
-  own_leaves old new lines (Err faults.OutOfMemory) o h = absurd o
-  own_leaves old new lines (Err faults.Usage) o h = h
-  own_leaves old new lines (Err (faults.Read input)) o h = absurd o
-  own_leaves old new lines (Err (faults.Open input)) o h = absurd o
-  own_leaves old new lines (Err faults.Write) o h = absurd o
+  -- but for a failed write, whole lines stand
+  pub leaves_all : (old new : Option (List ℕ)) (lines : List (List ℕ)) (r : Result A Fault) → (r ≡ Err faults.Write → ⊥) → Leaves old new lines r → AppendsAll old new lines
+  leaves_all old new lines (Ok x) not h = h
+  leaves_all old new lines (Err (faults.Refused refusal)) not h = h
+  leaves_all old new lines (Err faults.OutOfMemory) not h = h
+  leaves_all old new lines (Err faults.Usage) not h = h
+  leaves_all old new lines (Err (faults.Read input)) not h = h
+  leaves_all old new lines (Err (faults.Open input)) not h = h
+  leaves_all old new lines (Err faults.Write) not h = absurd (not refl)
+
+  own_written : (r : Result A Fault) → IsOwn r → r ≡ Err faults.Write → ⊥
+  own_written r o is = subst (λ (e : Result A Fault). IsOwn e) is o
 
   -- ---- the file that was asked for last
 
@@ -266,33 +272,42 @@ by_status (Err (faults.Open input)) ok capture memory write = tt
 -- ---- statuses
 
 -- the statuses of refusals lie between those of wrong words and of want of memory
-refusal_low : (refusal : Refusal) → 64 < refusal_status refusal
-refusal_low (BadCapture fault) = omega arith
-refusal_low (BadScript line kind) = omega arith
-refusal_low (BadText line kind) = omega arith
-refusal_low (Twice item label) = omega arith
-refusal_low (Unknown item label) = omega arith
-refusal_low (Backward item label) = omega arith
-refusal_low (TooLong input) = omega arith
-refusal_low CodeTooLong = omega arith
-refusal_low (TooLarge need limit) = omega arith
+refusal_between : (refusal : Refusal) → (64 < refusal_status refusal) × (refusal_status refusal < 70)
+refusal_between (BadCapture fault) = (omega arith, omega arith)
+refusal_between (BadScript line kind) = (omega arith, omega arith)
+refusal_between (BadText line kind) = (omega arith, omega arith)
+refusal_between (Twice item label) = (omega arith, omega arith)
+refusal_between (Unknown item label) = (omega arith, omega arith)
+refusal_between (Backward item label) = (omega arith, omega arith)
+refusal_between (TooLong input) = (omega arith, omega arith)
+refusal_between CodeTooLong = (omega arith, omega arith)
+refusal_between (TooLarge need limit) = (omega arith, omega arith)
 
-refusal_high : (refusal : Refusal) → refusal_status refusal < 70
-refusal_high (BadCapture fault) = omega arith
-refusal_high (BadScript line kind) = omega arith
-refusal_high (BadText line kind) = omega arith
-refusal_high (Twice item label) = omega arith
-refusal_high (Unknown item label) = omega arith
-refusal_high (Backward item label) = omega arith
-refusal_high (TooLong input) = omega arith
-refusal_high CodeTooLong = omega arith
-refusal_high (TooLarge need limit) = omega arith
+-- those of a file that can't be read
+abbrev pub IsFileStatus : ℕ → Type 0
+IsFileStatus status = (status ≡ 68) ⊎ ((status ≡ 71) ⊎ (status ≡ 73))
+
+pub file_status : (which : Input) (long : Type 0) (fault : Fault) → FileFails which long fault → (status_of (Err fault) ≡ 70) ⊎ IsFileStatus (status_of (Err fault))
+file_status which long faults.OutOfMemory h = inl refl
+file_status which long (faults.Read input) h = inr (inr (inl refl))
+file_status which long (faults.Open input) h = inr (inr (inr refl))
+file_status which long (faults.Refused (TooLong input)) h = inr (inl refl)
+file_status which long (faults.Refused (BadCapture fault)) h = absurd h
+file_status which long (faults.Refused (BadScript line kind)) h = absurd h
+file_status which long (faults.Refused (BadText line kind)) h = absurd h
+file_status which long (faults.Refused (Twice item label)) h = absurd h
+file_status which long (faults.Refused (Unknown item label)) h = absurd h
+file_status which long (faults.Refused (Backward item label)) h = absurd h
+file_status which long (faults.Refused CodeTooLong) h = absurd h
+file_status which long (faults.Refused (TooLarge need limit)) h = absurd h
+file_status which long faults.Usage h = absurd h
+file_status which long faults.Write h = absurd h
 
 module _ (a b : Stage) where
   read_owes : (end : Result (Unit {0}) Fault) → Owes a b end → status_of end ≡ 71 → Rose a.shelf.faults b.shelf.faults
   read_owes (Err (faults.Read input)) h is = h
   read_owes (Ok x) h is = absurd (omega arith)
-  read_owes (Err (faults.Refused refusal)) h is = absurd (omega (arith, refusal_high refusal))
+  read_owes (Err (faults.Refused refusal)) h is = absurd (omega (arith, (refusal_between refusal).1))
   read_owes (Err faults.OutOfMemory) h is = absurd (omega arith)
   read_owes (Err faults.Usage) h is = absurd (omega arith)
   read_owes (Err faults.Write) h is = absurd (omega arith)
@@ -301,7 +316,7 @@ module _ (a b : Stage) where
   write_owes : (end : Result (Unit {0}) Fault) → Owes a b end → status_of end ≡ 72 → Rose a.out.faults b.out.faults
   write_owes (Err faults.Write) h is = h
   write_owes (Ok x) h is = absurd (omega arith)
-  write_owes (Err (faults.Refused refusal)) h is = absurd (omega (arith, refusal_high refusal))
+  write_owes (Err (faults.Refused refusal)) h is = absurd (omega (arith, (refusal_between refusal).1))
   write_owes (Err faults.OutOfMemory) h is = absurd (omega arith)
   write_owes (Err faults.Usage) h is = absurd (omega arith)
   write_owes (Err (faults.Read input)) h is = absurd (omega arith)
@@ -310,7 +325,7 @@ module _ (a b : Stage) where
   open_owes : (end : Result (Unit {0}) Fault) → Owes a b end → status_of end ≡ 73 → Rose a.shelf.misses b.shelf.misses
   open_owes (Err (faults.Open input)) h is = h
   open_owes (Ok x) h is = absurd (omega arith)
-  open_owes (Err (faults.Refused refusal)) h is = absurd (omega (arith, refusal_high refusal))
+  open_owes (Err (faults.Refused refusal)) h is = absurd (omega (arith, (refusal_between refusal).1))
   open_owes (Err faults.OutOfMemory) h is = absurd (omega arith)
   open_owes (Err faults.Usage) h is = absurd (omega arith)
   open_owes (Err (faults.Read input)) h is = absurd (omega arith)
@@ -319,7 +334,7 @@ module _ (a b : Stage) where
   usage_owes : (end : Result (Unit {0}) Fault) → Owes a b end → status_of end ≡ 64 → ⊥
   usage_owes (Err faults.Usage) h is = h
   usage_owes (Ok x) h is = omega arith
-  usage_owes (Err (faults.Refused refusal)) h is = omega (arith, refusal_low refusal)
+  usage_owes (Err (faults.Refused refusal)) h is = omega (arith, (refusal_between refusal).0)
   usage_owes (Err faults.OutOfMemory) h is = omega arith
   usage_owes (Err (faults.Read input)) h is = omega arith
   usage_owes (Err faults.Write) h is = omega arith
@@ -327,7 +342,7 @@ module _ (a b : Stage) where
 
 pub ended_well : (end : Result (Unit {0}) Fault) → status_of end ≡ 0 → end ≡ Ok tt
 ended_well (Ok x) is = refl
-ended_well (Err (faults.Refused refusal)) is = absurd (omega (arith, refusal_low refusal))
+ended_well (Err (faults.Refused refusal)) is = absurd (omega (arith, (refusal_between refusal).0))
 ended_well (Err faults.OutOfMemory) is = absurd (omega arith)
 ended_well (Err faults.Usage) is = absurd (omega arith)
 ended_well (Err (faults.Read input)) is = absurd (omega arith)
@@ -371,7 +386,7 @@ module _ (a b : Stage) (end : Result (Unit {0}) Fault) where
       let s = does_stands m h in
       elim (does_own m h q) [
         | inl lacks ↦ inl (ap status_of lacks)
-        | inr o ↦ inr (o, s.0, s.1, own_leaves a.out.held b.out.held s.0 end o s.2)
+        | inr o ↦ inr (o, s.0, s.1, leaves_all a.out.held b.out.held s.0 end (own_written end o) s.2)
       ]
 
   pub does_read : (m : Meaning) → Does m a b end → status_of end ≡ 71 → Rose a.shelf.faults b.shelf.faults

@@ -6,7 +6,7 @@ use Rattle.apf_base.specs.Streams.{AppendsFront, AppendsAll}
 use Rattle.command_plan.specs.declared.fault.Refusal.{Refusal}
 use Rattle.command_plan.specs.declared.fault.Fault.{Fault}
 use Rattle.command_plan.specs.declared.fault.Fault.TheVariants.{Refused, OutOfMemory, Write}
-use Rattle.command_plan.specs.Plan.{Plan, says, texts, unless, ◌>>=◌}
+use Rattle.command_plan.specs.Plan.{Plan, says, says_some, unless, ◌>>=◌}
 use Rattle.command_plan.specs.Follows.{Stage, Later, Follows, Sinking, Writes}
 use Rattle.command_plan.specs.Follows as f
 use Rattle.command_plan.proofs.Following.{done, fails, refused, then_on, then_pick}
@@ -37,17 +37,17 @@ module _ (a b : Stage) (later : Later a b) where
 
 module _ (IsText : List (List ℕ) → Type 0) (refusal : Option Refusal) (a b : Stage) (later : Later a b) where
   -- all lines were written, and the call ended as defined
-  pub wrote_all : (lines : List (List ℕ)) → IsText lines → b.shelf.left ≡ a.shelf.left → AppendsAll a.out.held b.out.held lines → Follows (texts IsText refusal) a b (end_of refusal)
+  pub wrote_all : (lines : List (List ℕ)) → IsText lines → b.shelf.left ≡ a.shelf.left → AppendsAll a.out.held b.out.held lines → Follows (says_some IsText refusal) a b (end_of refusal)
   wrote_all lines text left h =
       then_pick IsText (λ l. says l >>= λ _. unless refusal) lines a b (end_of refusal) text
       (then_on (says lines) (λ _. unless refusal) tt a b b (end_of refusal) (all_said lines a b later left h) (ended refusal b))
 
-  pub wrote_first : (first rest : List (List ℕ)) → IsText (first ++ rest) → AppendsAll a.out.held b.out.held first → Follows (texts IsText refusal) a b (Err OutOfMemory)
+  pub wrote_first : (first rest : List (List ℕ)) → IsText (first ++ rest) → AppendsAll a.out.held b.out.held first → Follows (says_some IsText refusal) a b (Err OutOfMemory)
   wrote_first first rest text h =
       then_pick IsText (λ l. says l >>= λ _. unless refusal) (first ++ rest) a b (Err OutOfMemory) text
       (fails (says (first ++ rest)) (λ _. unless refusal) OutOfMemory a b (Err OutOfMemory) refl (first_said a b later first rest h))
 
-  pub wrote_front : (xs ys : List (List ℕ)) → IsText (xs ++ ys) → Rose a.out.faults b.out.faults → AppendsFront a.out.held b.out.held (concat xs) → Follows (texts IsText refusal) a b (Err Write)
+  pub wrote_front : (xs ys : List (List ℕ)) → IsText (xs ++ ys) → Rose a.out.faults b.out.faults → AppendsFront a.out.held b.out.held (concat xs) → Follows (says_some IsText refusal) a b (Err Write)
   wrote_front xs ys text rose h =
       then_pick IsText (λ l. says l >>= λ _. unless refusal) (xs ++ ys) a b (Err Write) text
       (fails (says (xs ++ ys)) (λ _. unless refusal) Write a b (Err Write) refl (front_said a b later xs ys rose h))

@@ -16,7 +16,7 @@ pub data Plan (A : Type 0) : Type 1 where
   Ask : Input → List ℕ → (List ℕ → Plan A) → Plan A
   -- it chooses something with this property, and goes on with it: one choice for all that follows
   Pick : {X : Type 0} → (X → Type 0) → (X → Plan A) → Plan A
-  -- it writes these lines, each as one piece, and goes on
+  -- it writes these lines, each handed to the sink as one piece, so that only a sink that fails can cut one, and goes on
   Say : List (List ℕ) → Plan A → Plan A
 
 -- one plan behind another
@@ -52,8 +52,8 @@ unless Option.None = Done tt
 unless (Option.Some refusal) = Refuse refusal
 
 -- it writes some lines with this property, and then ends, refused or not
-abbrev pub texts : (List (List ℕ) → Type 0) → Option Refusal → Plan (Unit {0})
-texts IsText refusal = picks IsText >>= λ lines. says lines >>= λ _. unless refusal
+abbrev pub says_some : (List (List ℕ) → Type 0) → Option Refusal → Plan (Unit {0})
+says_some IsText refusal = picks IsText >>= λ lines. says lines >>= λ _. unless refusal
 
 -- ---- what is read off a plan
 

@@ -1,9 +1,8 @@
 -- The exit statuses, and the lines that say why.
-use Rattle.std.specs.Prelude.{ℕ, List, [], ◌∷◌, ◌++◌, codes, Result, Ok, Err, slice_index_or}
+use Rattle.std.specs.Prelude.{ℕ, List, [], ◌∷◌, ◌++◌, ◌⊎◌, codes, Option, Result, Ok, Err, slice_index_or}
 use Rattle.std.specs.List.{concat}
 use Rattle.std.specs.Fmt.{decimal}
 use Rattle.std.specs.Io.KnownBytes.{Appends, Keeps}
-use Rattle.std.specs.Prelude.{Option, ◌⊎◌}
 use Rattle.apf_base.specs.Streams.{AppendsFront}
 use Rattle.apf_asm.specs.declared.text_error.TextKind.{TextKind}
 use Rattle.apf_asm.specs.declared.text_error.TextKind.TheVariants.{Ascii, Word, Operand}

@@ -100,7 +100,8 @@ fn fault_name(fault: Fault, words: &[String]) -> &str
 // Writes pieces, one behind another.
 fn write_parts<E: Sink>(err: &mut E, parts: &[&str]) -> Result<(), Failed>
     ensures ok { OnOk result (Appends (E.held err.old) (E.held err.new) (concat (map (λ part. part.now) parts.now))) }
-    ensures err { OnErr result (AppendsFront (E.held err.old) (E.held err.new) (concat (map (λ part. part.now) parts.now))) }
+    ensures err { OnErr result
+        (AppendsFront (E.held err.old) (E.held err.new) (concat (map (λ part. part.now) parts.now))) }
     ensures cause { HasCause (E.faults err.old) (E.faults err.new) result }
 {
     for part in parts {
@@ -118,8 +119,10 @@ fn write_pair<E: Sink>(
     second: u32,
     behind: &str,
 ) -> Result<(), Failed>
-    ensures ok { OnOk result (Appends (E.held err.old) (E.held err.new) (pair_words first between.now second behind.now)) }
-    ensures err { OnErr result (AppendsFront (E.held err.old) (E.held err.new) (pair_words first between.now second behind.now)) }
+    ensures ok { OnOk result
+        (Appends (E.held err.old) (E.held err.new) (pair_words first between.now second behind.now)) }
+    ensures err { OnErr result
+        (AppendsFront (E.held err.old) (E.held err.new) (pair_words first between.now second behind.now)) }
     ensures cause { HasCause (E.faults err.old) (E.faults err.new) result }
 {
     let mut digits = Buffer::new();

@@ -13,7 +13,8 @@ use std::alloc::Global;
 pub trait Files: Shelf {
     ghost seen: { Self → Shelving };
 
-    /// All bytes of the file of this name, which is to have no more than its kind allows.
+    /// All bytes of the file of this name. `Open` where it could not be opened, `Read` where a read of it failed, and
+    /// `TooLong` where it has more bytes than its kind allows.
     fn ask(&mut self, alloc: Global, name: &str, input: Input) -> Result<List<u8>, Fault>
         requires { Self.may name.now }
         ensures { Reads (asks input name.now) (seen self.old) (seen self.new) result };
@@ -31,7 +32,7 @@ impl<H: Shelf> Files for H {
 pub trait Lines: Sink {
     ghost seen: { Self → Sinking };
 
-    /// Writes a line, as one piece.
+    /// Hands a line to the sink as one piece. `Write` where the sink failed: the first bytes of the line may stand then.
     fn say(&mut self, line: &[u8]) -> Result<(), Fault>
         ensures { Writes (says (line.now ∷ [])) (seen self.old) (seen self.new) result };
 

@@ -31,7 +31,8 @@ fn read_file<H: Shelf>(
     ensures fits { IfOk result (λ bytes. length bytes ≤ limit_of input.kind) }
     ensures bytes { IfOk result IsBytes }
     ensures whole { OnOk result (IsAtEnd (H.left shelf.new)) }
-    ensures err { IfErr result (FileFails input (IfSome (H.file shelf.old name.now) (λ told. limit_of input.kind < length told))) }
+    ensures err { IfErr result
+        (FileFails input (IfSome (H.file shelf.old name.now) (λ told. limit_of input.kind < length told))) }
     ensures read { (which : Input) → result ≡ Err (Fault.Read which) → Rose (H.faults shelf.old) (H.faults shelf.new) }
     ensures open { (which : Input) → result ≡ Err (Fault.Open which) → Rose (H.misses shelf.old) (H.misses shelf.new) }
     ensures faults { H.faults shelf.old ≤ H.faults shelf.new }
@@ -70,7 +71,8 @@ pub(crate) fn ask<H: Shelf>(
 
 /// Writes a line, as one piece.
 pub(crate) fn say<O: Sink>(out: &mut O, line: &[u8]) -> Result<(), Fault>
-    ensures { Writes (says (line.now ∷ [])) (sinking (O.held out.old) (O.faults out.old)) (sinking (O.held out.new) (O.faults out.new)) result }
+    ensures { Writes (says (line.now ∷ []))
+        (sinking (O.held out.old) (O.faults out.old)) (sinking (O.held out.new) (O.faults out.new)) result }
 {
     match write_all(out, line) {
         Ok(()) => Ok(()),

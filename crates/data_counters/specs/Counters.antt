@@ -4,63 +4,48 @@ use Rattle.std.specs.List.{find}
 use Rattle.data_counters.specs.declared.counter.Counter.{Counter}
 use Rattle.data_counters.specs.declared.counter.Counter.TheVariants.{TotalPackets, PassedArp, PassedArpNonIpv4, PassedArpUnknown, PassedArpUnicastReply, PassedDhcp, PassedIpv4, PassedIpv4Unicast, PassedIpv6NonIcmp, PassedIpv6UnicastNonIcmp, PassedIpv6Icmp, PassedNonIpUnicast, Dropped8023Frame, DroppedEthertypeDenied, DroppedEthBroadcast, DroppedArpReplySpaNoHost, DroppedGarpReply, DroppedArpOtherHost, DroppedIpv4L2Broadcast, DroppedIpv4BroadcastAddr, DroppedIpv4BroadcastNet, DroppedIpv4Multicast, DroppedIpv4KeepaliveAck, DroppedIpv6RouterSolicitation, DroppedIpv6MulticastNa, DroppedIpv6Multicast, DroppedRa}
 
+pub record Row : Type 0 where
+  pub number : ℕ
+  pub name : List ℕ
+
+abbrev pub row : ℕ → List ℕ → Row
+row number name = record { number = number; name = name }
+
+-- the table
+abbrev pub row_of : Counter → Row
+row_of TotalPackets = row 1 (codes "TOTAL_PACKETS")
+row_of PassedArp = row 2 (codes "PASSED_ARP")
+row_of PassedArpNonIpv4 = row 3 (codes "PASSED_ARP_NON_IPV4")
+row_of PassedArpUnknown = row 4 (codes "PASSED_ARP_UNKNOWN")
+row_of PassedArpUnicastReply = row 5 (codes "PASSED_ARP_UNICAST_REPLY")
+row_of PassedDhcp = row 6 (codes "PASSED_DHCP")
+row_of PassedIpv4 = row 7 (codes "PASSED_IPV4")
+row_of PassedIpv4Unicast = row 8 (codes "PASSED_IPV4_UNICAST")
+row_of PassedIpv6NonIcmp = row 9 (codes "PASSED_IPV6_NON_ICMP")
+row_of PassedIpv6UnicastNonIcmp = row 10 (codes "PASSED_IPV6_UNICAST_NON_ICMP")
+row_of PassedIpv6Icmp = row 11 (codes "PASSED_IPV6_ICMP")
+row_of PassedNonIpUnicast = row 12 (codes "PASSED_NON_IP_UNICAST")
+row_of Dropped8023Frame = row 13 (codes "DROPPED_802_3_FRAME")
+row_of DroppedEthertypeDenied = row 14 (codes "DROPPED_ETHERTYPE_DENIED")
+row_of DroppedEthBroadcast = row 15 (codes "DROPPED_ETH_BROADCAST")
+row_of DroppedArpReplySpaNoHost = row 16 (codes "DROPPED_ARP_REPLY_SPA_NO_HOST")
+row_of DroppedGarpReply = row 17 (codes "DROPPED_GARP_REPLY")
+row_of DroppedArpOtherHost = row 18 (codes "DROPPED_ARP_OTHER_HOST")
+row_of DroppedIpv4L2Broadcast = row 19 (codes "DROPPED_IPV4_L2_BROADCAST")
+row_of DroppedIpv4BroadcastAddr = row 20 (codes "DROPPED_IPV4_BROADCAST_ADDR")
+row_of DroppedIpv4BroadcastNet = row 21 (codes "DROPPED_IPV4_BROADCAST_NET")
+row_of DroppedIpv4Multicast = row 22 (codes "DROPPED_IPV4_MULTICAST")
+row_of DroppedIpv4KeepaliveAck = row 23 (codes "DROPPED_IPV4_KEEPALIVE_ACK")
+row_of DroppedIpv6RouterSolicitation = row 24 (codes "DROPPED_IPV6_ROUTER_SOLICITATION")
+row_of DroppedIpv6MulticastNa = row 25 (codes "DROPPED_IPV6_MULTICAST_NA")
+row_of DroppedIpv6Multicast = row 26 (codes "DROPPED_IPV6_MULTICAST")
+row_of DroppedRa = row 27 (codes "DROPPED_RA")
+
 abbrev pub number_of : Counter → ℕ
-number_of TotalPackets = 1
-number_of PassedArp = 2
-number_of PassedArpNonIpv4 = 3
-number_of PassedArpUnknown = 4
-number_of PassedArpUnicastReply = 5
-number_of PassedDhcp = 6
-number_of PassedIpv4 = 7
-number_of PassedIpv4Unicast = 8
-number_of PassedIpv6NonIcmp = 9
-number_of PassedIpv6UnicastNonIcmp = 10
-number_of PassedIpv6Icmp = 11
-number_of PassedNonIpUnicast = 12
-number_of Dropped8023Frame = 13
-number_of DroppedEthertypeDenied = 14
-number_of DroppedEthBroadcast = 15
-number_of DroppedArpReplySpaNoHost = 16
-number_of DroppedGarpReply = 17
-number_of DroppedArpOtherHost = 18
-number_of DroppedIpv4L2Broadcast = 19
-number_of DroppedIpv4BroadcastAddr = 20
-number_of DroppedIpv4BroadcastNet = 21
-number_of DroppedIpv4Multicast = 22
-number_of DroppedIpv4KeepaliveAck = 23
-number_of DroppedIpv6RouterSolicitation = 24
-number_of DroppedIpv6MulticastNa = 25
-number_of DroppedIpv6Multicast = 26
-number_of DroppedRa = 27
+number_of c = (row_of c).number
 
 abbrev pub name_of : Counter → List ℕ
-name_of TotalPackets = codes "TOTAL_PACKETS"
-name_of PassedArp = codes "PASSED_ARP"
-name_of PassedArpNonIpv4 = codes "PASSED_ARP_NON_IPV4"
-name_of PassedArpUnknown = codes "PASSED_ARP_UNKNOWN"
-name_of PassedArpUnicastReply = codes "PASSED_ARP_UNICAST_REPLY"
-name_of PassedDhcp = codes "PASSED_DHCP"
-name_of PassedIpv4 = codes "PASSED_IPV4"
-name_of PassedIpv4Unicast = codes "PASSED_IPV4_UNICAST"
-name_of PassedIpv6NonIcmp = codes "PASSED_IPV6_NON_ICMP"
-name_of PassedIpv6UnicastNonIcmp = codes "PASSED_IPV6_UNICAST_NON_ICMP"
-name_of PassedIpv6Icmp = codes "PASSED_IPV6_ICMP"
-name_of PassedNonIpUnicast = codes "PASSED_NON_IP_UNICAST"
-name_of Dropped8023Frame = codes "DROPPED_802_3_FRAME"
-name_of DroppedEthertypeDenied = codes "DROPPED_ETHERTYPE_DENIED"
-name_of DroppedEthBroadcast = codes "DROPPED_ETH_BROADCAST"
-name_of DroppedArpReplySpaNoHost = codes "DROPPED_ARP_REPLY_SPA_NO_HOST"
-name_of DroppedGarpReply = codes "DROPPED_GARP_REPLY"
-name_of DroppedArpOtherHost = codes "DROPPED_ARP_OTHER_HOST"
-name_of DroppedIpv4L2Broadcast = codes "DROPPED_IPV4_L2_BROADCAST"
-name_of DroppedIpv4BroadcastAddr = codes "DROPPED_IPV4_BROADCAST_ADDR"
-name_of DroppedIpv4BroadcastNet = codes "DROPPED_IPV4_BROADCAST_NET"
-name_of DroppedIpv4Multicast = codes "DROPPED_IPV4_MULTICAST"
-name_of DroppedIpv4KeepaliveAck = codes "DROPPED_IPV4_KEEPALIVE_ACK"
-name_of DroppedIpv6RouterSolicitation = codes "DROPPED_IPV6_ROUTER_SOLICITATION"
-name_of DroppedIpv6MulticastNa = codes "DROPPED_IPV6_MULTICAST_NA"
-name_of DroppedIpv6Multicast = codes "DROPPED_IPV6_MULTICAST"
-name_of DroppedRa = codes "DROPPED_RA"
+name_of c = (row_of c).name
 
 -- all of them, by their numbers
 abbrev pub all_counters : List Counter

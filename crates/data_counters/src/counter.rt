@@ -61,12 +61,13 @@ pub enum Counter {
 }
 
 impl Counter {
-    ghost use Rattle.std.specs.Prelude.{◌≡◌, ◌<◌, ◌⊎◌, ◌↔◌, IsNone};
+    ghost use Rattle.std.specs.Prelude.{◌≡◌, ◌<◌, ◌≤◌, ◌⊎◌, ◌↔◌, IsNone};
     ghost use Rattle.data_counters.specs.Counters.{number_of, name_of, counter_of};
 
     /// The counter's number, from 1 to 27.
     pub fn number(self) -> u8
-        ensures { result ≡ number_of self }
+        ensures value { result ≡ number_of self }
+        ensures range { (1 ≤ result) × (result ≤ 27) }
     {
         self as u8
     }

@@ -1,9 +1,10 @@
 pub mod Answering
 pub mod Causes
 pub mod Counting
-pub mod LeastHold
-pub mod Numbering
 pub mod Fitting
 pub mod Growing
+pub mod LeastHold
+pub mod Numbering
 pub mod SoundBases
 pub mod Standing
+pub mod Totals

@@ -7,7 +7,9 @@ use Rattle.std.proofs.lemmas.List.{length-set}
 use Rattle.std.proofs.lemmas.List.Elements.{All-nil, All-cons, All-append, All-filter, All-map, All-push, All-replicate, All-set, All-take, All-drop, All-weaker}
 use Rattle.apf_generate.specs.Sizes.{need_of}
 use Rattle.policy_state.specs.Effects.{after, is_same, in_slot, with_slot}
-use Rattle.apf_generate.specs.Ranges.{AreBytes, IsConfig, IsKeepalive, IsState, IsRecord, IsChosen, IsBasis, IsUpdate, IsScript}
+use Rattle.policy_state.specs.Ranges.{IsKeepalive}
+use Rattle.apf_generate.specs.Ranges.{IsConfig, IsState, IsRecord, IsChosen, IsBasis, IsUpdate, IsScript}
+use Rattle.apf_coding.specs.Words.{AreBytes}
 use Rattle.policy_state.specs.States.{start}
 use Rattle.policy_state.specs.declared.basis.Script.{Script}
 use Rattle.policy_state.specs.declared.basis.UpdateReply.TheVariants as updates

@@ -2,7 +2,7 @@
 
 ghost use Rattle.std.specs.Prelude.{◌≡◌, ◌≤◌, length};
 ghost use Rattle.apf_generate.specs.Means.{Means};
-ghost use Rattle.apf_generate.specs.Ranges.{AreBytes};
+ghost use Rattle.apf_coding.specs.Words.{AreBytes};
 ghost use Rattle.apf_generate.specs.Sizes.{need_of};
 ghost use Rattle.size_fit.specs.Sizes.{limit_of};
 

@@ -1,12 +1,16 @@
 //! Laws over the filter's definitions, each the contract of an empty function.
 
-ghost use Rattle.std.specs.Prelude.{◌≡◌, ◌≢◌, ◌↔◌, if◌then◌else◌, max, ◌+◌, ◌%◌, ◌^◌, ◌<◌, ◌≤◌, ℕ, List, [], ◌∷◌, ◌++◌, Ok, Err, All, length, map, replicate};
+ghost use Rattle.std.specs.Prelude.{◌≡◌, ◌≢◌, ◌↔◌, if◌then◌else◌, max, ◌+◌, ◌%◌, ◌^◌, ◌<◌, ◌≤◌, ℕ, List, [], ◌∷◌, ◌++◌, Ok, Err, All, length, map, replicate, drop, not, count_by};
+ghost use Rattle.std.specs.List.{sum_by};
+ghost use Rattle.data_counters.specs.Counters.{all_counters};
+ghost use Rattle.policy_state.specs.Whole.{verdict_of};
 ghost use Rattle.apf_generate.specs.Means.{Means, memory_after};
 ghost use Rattle.apf_generate.specs.Sizes.{need_of};
 ghost use Rattle.data_counters.specs.Memory.{value_of};
 ghost use Rattle.data_counters.specs.declared.counter.Counter.{Counter};
 ghost use Rattle.policy_state.specs.Effects.{after};
-ghost use Rattle.apf_generate.specs.Ranges.{AreBytes, IsBasis, IsScript};
+ghost use Rattle.apf_generate.specs.Ranges.{IsBasis, IsScript};
+ghost use Rattle.apf_coding.specs.Words.{AreBytes};
 ghost use Rattle.policy_state.specs.States.{start};
 ghost use Rattle.policy_state.specs.declared.basis.Script.{Script};
 ghost use Rattle.policy_state.specs.declared.basis.UpdateReply.TheVariants as updates;
@@ -23,7 +27,7 @@ ghost use Rattle.size_fit.specs.Sizes.{base, limit_of};
 ghost use Rattle.filter_core.specs.Calls.{update_installs, advert_installs};
 ghost use Rattle.filter_core.specs.Installs.{kept, install_of};
 ghost use Rattle.filter_core.specs.Records.{ids_of};
-ghost use Rattle.filter_core.specs.Replay.{Arrival, replay, answers_of, installs_of, AreByLast};
+ghost use Rattle.filter_core.specs.Replay.{Arrival, replay, story, ending, passed, passes, answers_of, installs_of, AreByLast};
 ghost use Rattle.filter_core.specs.Steps.{Filter, Answered, state_of, config_of, updated, advertised};
 ghost use Rattle.filter_core.specs.Tally.{raised_by, count, memory_of};
 ghost use Rattle.filter_core.specs.declared.install.Install.{Install};
@@ -59,6 +63,17 @@ pub fn counters_count_answers()
 pub fn answers_are_by_the_last_install()
     ensures last { (script : Script) (arrivals : List Arrival) → AreByLast 0 (replay script arrivals) }
     ensures below { (script : Script) (arrivals : List Arrival) → All (λ a. a.number < length (installs_of (replay script arrivals))) (answers_of (replay script arrivals)) }
+{}
+
+/// A replay is its story, the entries up to the last frame's, and then its ending. Of its answers those that pass and
+/// those that drop are all, and the counters beside the first are raised at most once an answer in all.
+pub fn replays_add_up()
+    ensures story { (script : Script) (arrivals : List Arrival) →
+        replay script arrivals ≡ story script arrivals ++ ending script arrivals }
+    ensures frames { (answers : List Answered) →
+        passed answers + count_by (λ a. not (passes (verdict_of a.fate))) answers ≡ length answers }
+    ensures counters { (answers : List Answered) →
+        sum_by (count (raised_by answers)) (drop 1 all_counters) ≤ length answers }
 {}
 
 /// When the replies to an update come: `Same` exactly where the state stays equal, `Refused` exactly where the state refuses

@@ -17,8 +17,8 @@ mod tests;
 pub use install::Install;
 pub use laws::{
     answers_are_by_the_last_install, bases_are_sound, counters_count_answers,
-    longest_prefix_is_chosen, programs_mean_their_basis, steps_count_their_installs,
-    update_replies_have_causes,
+    longest_prefix_is_chosen, programs_mean_their_basis, replays_add_up,
+    steps_count_their_installs, update_replies_have_causes,
 };
 pub use living::{Core, StartError};
 pub use sharing::types_are_shared;

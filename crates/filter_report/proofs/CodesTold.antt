@@ -10,7 +10,7 @@ use Rattle.std.proofs.lemmas.List.Elements.{All-cons, All-head, All-nil, All-tai
 use Rattle.std.proofs.lemmas.List.Folds.{list_all-append}
 use Rattle.hex.specs.Hex.{encode_lower, encode_with, hex_digit_value, lower_digits}
 use Rattle.hex.proofs.HexLemmas.{IsDigits-lower_digits}
-use Rattle.apf_generate.specs.Ranges.{AreBytes}
+use Rattle.apf_coding.specs.Words.{AreBytes}
 use Rattle.script_text.specs.Report.{gen_line, left_word}
 use Rattle.script_text.proofs.AddressWords.{lacks}
 use Rattle.script_text.proofs.Exactness.{some_inj}

@@ -2,7 +2,7 @@
 use Rattle.std.specs.Prelude.{◌≡◌, ℕ, ◌≤◌, List, [], ◌∷◌, ◌++◌, length, get_or}
 use Rattle.apf_coding.specs.Run.{run}
 use Rattle.apf_generate.specs.Means.{Means}
-use Rattle.apf_generate.specs.Ranges.{AreBytes}
+use Rattle.apf_coding.specs.Words.{AreBytes}
 use Rattle.apf_generate.specs.Sizes.{need_of}
 use Rattle.data_counters.specs.declared.counter.Counter.{Counter}
 use Rattle.policy_state.specs.declared.basis.Basis.{Basis}

@@ -1,7 +1,7 @@
 //! Laws over the definition of a report, each the contract of an empty function.
 
 ghost use Rattle.std.specs.Prelude.{◌≡◌, ℕ, List, [], All, get_or};
-ghost use Rattle.apf_generate.specs.Ranges.{AreBytes};
+ghost use Rattle.apf_coding.specs.Words.{AreBytes};
 ghost use Rattle.policy_state.specs.declared.basis.Script.{Script};
 ghost use Rattle.filter_core.specs.Replay.{Arrival, Entry, installs_of};
 ghost use Rattle.script_text.specs.Report.{gen_line};

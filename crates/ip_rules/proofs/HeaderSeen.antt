@@ -7,8 +7,8 @@ use Rattle.apf_coding.specs.Meaning.{State, frame_number}
 use Rattle.frame_views.specs.Fields.{value_of, field, part}
 use Rattle.frame_views.specs.Packets.{header_length}
 use Rattle.policy_state.proofs.FieldsSeen.{number_seen, bytes_seen}
-use Rattle.rule_items.specs.Saying.{IsReady}
-use Rattle.rule_items.proofs.Rules.{frame_bytes}
+use Rattle.apf_asm.specs.Saying.{IsReady}
+use Rattle.apf_asm.proofs.Rules.{frame_bytes}
 
 header_cases : (b : ℕ) (t : Bool) → cond t (b % 16 * 4) 0 ≤ 60
 header_cases b true = omega arith

@@ -5,10 +5,11 @@ use Rattle.apf_asm.specs.declared.item.Item.{Item}
 use Rattle.policy_state.specs.declared.basis.Basis.{Basis}
 use Rattle.policy_state.specs.Ip4.{keepalive_answers}
 use Rattle.policy_state.specs.Policy.{ip4}
-use Rattle.rule_items.specs.Fragment.{Emits, IsPart}
-use Rattle.rule_items.specs.Rulings.{said_of}
-use Rattle.rule_items.proofs.Parts.{fresh-above, part-same}
-use Rattle.ip_rules.specs.Ip4Listing.{ip4_items, IsMac, IsInRange}
+use Rattle.apf_asm.specs.Fragment.{Emits, IsPart}
+use Rattle.policy_state.specs.Rulings.{said_of}
+use Rattle.apf_asm.proofs.Parts.{fresh-above, part-same}
+use Rattle.policy_state.specs.Ranges.{IsMac}
+use Rattle.ip_rules.specs.Ip4Listing.{ip4_items, IsInRange}
 use Rattle.ip_rules.proofs.Ip4Form.{packet_fragment, ip4_fragment}
 use Rattle.ip_rules.proofs.Ip4Ruling.{packet_items, ip4_tells}
 

@@ -7,16 +7,18 @@ use Rattle.apf_asm.specs.declared.item.Item.{Item}
 use Rattle.apf_asm.specs.declared.item.Target.TheVariants as targets
 use Rattle.apf_asm.specs.Layout.{wide_length}
 use Rattle.data_counters.specs.declared.counter.Counter.TheVariants.{PassedDhcp, PassedIpv4, PassedIpv4Unicast, DroppedIpv4L2Broadcast, DroppedIpv4BroadcastAddr, DroppedIpv4BroadcastNet, DroppedIpv4Multicast}
+use Rattle.data_counters.specs.Counters.{number_of}
 use Rattle.policy_state.specs.declared.basis.Basis.{Basis}
 use Rattle.policy_state.specs.declared.state.Address.{Address}
 use Rattle.policy_state.specs.Ethernet.{broadcast}
 use Rattle.policy_state.specs.Ip4.{net_broadcast_of}
-use Rattle.rule_items.specs.Building.{fixed, counting, jump, jump_if, jump_unless, load, to_end}
-use Rattle.rule_items.specs.Fragment.{IsFragment, labels}
-use Rattle.rule_items.proofs.Forms.{IsSound, stands-here, bytes_fit, sound-nil, sound-byte, sound-if_end, sound-if_label, sound-jump_end, sound-unless_end, sound-unless_label, sound-label}
-use Rattle.rule_items.proofs.Parts.{fragment-of, fragment-then, fragment-turned}
-use Rattle.rule_items.proofs.Rulings.{sound-counting}
-use Rattle.ip_rules.specs.Ip4Listing.{header_into, dhcp_items, net_items, destination_items, filtered_items, last_items, ip4_items, IsMac, IsInRange}
+use Rattle.apf_asm.specs.Building.{fixed, count, jump, jump_if, jump_unless, load, to_end}
+use Rattle.apf_asm.specs.Fragment.{IsFragment, labels}
+use Rattle.apf_asm.proofs.Forms.{IsSound, stands-here, bytes_fit, sound-nil, sound-byte, sound-if_end, sound-if_label, sound-jump_end, sound-unless_end, sound-unless_label, sound-label, sound-count}
+use Rattle.apf_asm.proofs.Parts.{fragment-of, fragment-then, fragment-turned}
+use Rattle.policy_state.proofs.Rulings.{has_word}
+use Rattle.policy_state.specs.Ranges.{IsMac}
+use Rattle.ip_rules.specs.Ip4Listing.{header_into, dhcp_items, net_items, destination_items, filtered_items, last_items, ip4_items, IsInRange}
 use Rattle.ip_rules.proofs.Ip4Ruling.{packet_items}
 use Rattle.ip_rules.proofs.Over.{over_fragment}
 use Rattle.ip_rules.proofs.KeepaliveForm.{fresh-one}
@@ -25,7 +27,7 @@ use Rattle.ip_rules.proofs.KeepaliveForm.{fresh-one}
 
 sound-dhcp : (away : ℕ) (mac : List ℕ) → IsMac mac → IsSound (dhcp_items away mac)
 sound-dhcp away mac is_mac =
-    let passed = counting PassedDhcp ∷ jump (to_end Pass) ∷ [] in
+    let passed = count (number_of PassedDhcp) ∷ jump (to_end Pass) ∷ [] in
     let client = header_into 0 ∷ fixed Add 0 1 50 ∷ jump_unless mac (targets.Label away) ∷ passed in
     let port = header_into 1 ∷ load Ldhx 16 ∷ jump_if Jne 68 (targets.Label away) ∷ client in
     let fragment = load Ldh 20 ∷ jump_if Jset 0x1fff (targets.Label away) ∷ port in
@@ -34,7 +36,7 @@ sound-dhcp away mac is_mac =
     (sound-byte Ext 1 13 _ refl (lit< tt) (lit< tt) (sound-byte Ldhx 0 16 _ refl (lit< tt) (lit< tt) (sound-if_label Jne 68 away _ refl (lit< tt) (stands-here away client [])
     (sound-byte Ext 0 13 _ refl (lit< tt) (lit< tt) (sound-byte Add 0 50 _ refl (lit< tt) (lit< tt)
     (sound-unless_label mac away _ (omega (arith, is_mac.six)) (omega (arith, is_mac.six)) is_mac.bytes (stands-here away passed [])
-    (sound-counting PassedDhcp _ (sound-jump_end Pass _ (sound-label away [] sound-nil))))))))))))
+    (sound-count (number_of PassedDhcp) _ (has_word PassedDhcp) (sound-jump_end Pass _ (sound-label away [] sound-nil))))))))))))
 
 wide-dhcp : (away : ℕ) (mac : List ℕ) → length mac ≡ 6 → wide_length (dhcp_items away mac) ≤ 61
 wide-dhcp away mac six = omega (arith, six)
@@ -54,10 +56,10 @@ dhcp_fragment away mac is_mac =
 
 -- ---- multicast and broadcast
 
-net_cases : (l number : ℕ) (b : Bool) → (b ≡ true → number < 2 ^ 32) → IsFragment l l 11 (cond b (counting DroppedIpv4BroadcastNet ∷ jump_if Jeq number (to_end Drop) ∷ []) [])
+net_cases : (l number : ℕ) (b : Bool) → (b ≡ true → number < 2 ^ 32) → IsFragment l l 11 (cond b (count (number_of DroppedIpv4BroadcastNet) ∷ jump_if Jeq number (to_end Drop) ∷ []) [])
 unfolding labels
 net_cases l number true low =
-    fragment-of l l 11 _ (sound-counting DroppedIpv4BroadcastNet _ (sound-if_end Jeq number Drop _ refl (low refl) sound-nil)) (omega arith) tt (omega arith) (lit≤ tt)
+    fragment-of l l 11 _ (sound-count (number_of DroppedIpv4BroadcastNet) _ (has_word DroppedIpv4BroadcastNet) (sound-if_end Jeq number Drop _ refl (low refl) sound-nil)) (omega arith) tt (omega arith) (lit≤ tt)
 net_cases l number false low = fragment-of l l 11 [] sound-nil (omega arith) tt (omega arith) (lit≤ tt)
 
 net_fragment : (l : ℕ) (address : Option Address) → IsInRange address → IsFragment l l 11 (net_items address)
@@ -68,10 +70,10 @@ net_fragment l (Some address) fits = net_cases l (net_broadcast_of address) (ltb
 destination_fragment : (l : ℕ) (address : Option Address) → IsInRange address → IsFragment l l 39 (destination_items address)
 unfolding labels
 destination_fragment l address fits =
-    let front = load Ldb 30 ∷ fixed And 0 1 0xf0 ∷ counting DroppedIpv4Multicast ∷ jump_if Jeq 0xe0 (to_end Drop) ∷ load Ldw 30 ∷ counting DroppedIpv4BroadcastAddr ∷ jump_if Jeq 0xffffffff (to_end Drop) ∷ [] in
+    let front = load Ldb 30 ∷ fixed And 0 1 0xf0 ∷ count (number_of DroppedIpv4Multicast) ∷ jump_if Jeq 0xe0 (to_end Drop) ∷ load Ldw 30 ∷ count (number_of DroppedIpv4BroadcastAddr) ∷ jump_if Jeq 0xffffffff (to_end Drop) ∷ [] in
     let sound : IsSound front =
-    sound-byte Ldb 0 30 _ refl (lit< tt) (lit< tt) (sound-byte And 0 0xf0 _ refl (lit< tt) (lit< tt) (sound-counting DroppedIpv4Multicast _ (sound-if_end Jeq 0xe0 Drop _ refl (lit< tt)
-    (sound-byte Ldw 0 30 _ refl (lit< tt) (lit< tt) (sound-counting DroppedIpv4BroadcastAddr _ (sound-if_end Jeq 0xffffffff Drop _ refl (lit< tt) sound-nil)))))) in
+    sound-byte Ldb 0 30 _ refl (lit< tt) (lit< tt) (sound-byte And 0 0xf0 _ refl (lit< tt) (lit< tt) (sound-count (number_of DroppedIpv4Multicast) _ (has_word DroppedIpv4Multicast) (sound-if_end Jeq 0xe0 Drop _ refl (lit< tt)
+    (sound-byte Ldw 0 30 _ refl (lit< tt) (lit< tt) (sound-count (number_of DroppedIpv4BroadcastAddr) _ (has_word DroppedIpv4BroadcastAddr) (sound-if_end Jeq 0xffffffff Drop _ refl (lit< tt) sound-nil)))))) in
     fragment-then l l l 28 11 front (net_items address) (fragment-of l l 28 front sound (omega arith) tt (omega arith) (lit≤ tt)) (net_fragment l address fits)
 
 filtered_fragment : (on : Bool) (label : ℕ) (mac : List ℕ) (address : Option Address) → (on ≡ true → IsMac mac) → (on ≡ true → IsInRange address) → IsFragment label (label + 1) 100 (filtered_items on label mac address)
@@ -86,10 +88,10 @@ last_fragment : (on : Bool) (l : ℕ) → IsFragment l l 26 (last_items on)
 unfolding labels
 last_fragment true l =
     fragment-of l l 26 (last_items true)
-    (sound-byte Li 0 0 _ refl (lit< tt) (lit< tt) (sound-counting PassedIpv4Unicast _ (sound-unless_end broadcast Pass _ (lit< tt) (lit≤ tt) (bytes_fit broadcast refl)
-    (sound-counting DroppedIpv4L2Broadcast _ (sound-jump_end Drop [] sound-nil)))))
+    (sound-byte Li 0 0 _ refl (lit< tt) (lit< tt) (sound-count (number_of PassedIpv4Unicast) _ (has_word PassedIpv4Unicast) (sound-unless_end broadcast Pass _ (lit< tt) (lit≤ tt) (bytes_fit broadcast refl)
+    (sound-count (number_of DroppedIpv4L2Broadcast) _ (has_word DroppedIpv4L2Broadcast) (sound-jump_end Drop [] sound-nil)))))
     (omega arith) tt (omega arith) (lit≤ tt)
-last_fragment false l = fragment-of l l 26 (last_items false) (sound-counting PassedIpv4 _ (sound-jump_end Pass [] sound-nil)) (omega arith) tt (omega arith) (lit≤ tt)
+last_fragment false l = fragment-of l l 26 (last_items false) (sound-count (number_of PassedIpv4) _ (has_word PassedIpv4) (sound-jump_end Pass [] sound-nil)) (omega arith) tt (omega arith) (lit≤ tt)
 
 -- ---- the whole
 

@@ -12,6 +12,7 @@ use Rattle.apf_asm.specs.declared.item.Target.TheVariants as targets
 use Rattle.apf_asm.specs.Refusals.{stands}
 use Rattle.data_counters.specs.declared.counter.Counter.{Counter}
 use Rattle.data_counters.specs.declared.counter.Counter.TheVariants.{PassedDhcp, PassedIpv4, PassedIpv4Unicast, DroppedIpv4L2Broadcast, DroppedIpv4BroadcastAddr, DroppedIpv4BroadcastNet, DroppedIpv4Multicast}
+use Rattle.data_counters.specs.Counters.{number_of}
 use Rattle.frame_views.specs.Fields.{field, part}
 use Rattle.frame_views.specs.Packets.{header_length}
 use Rattle.policy_state.specs.declared.basis.Basis.{Basis}
@@ -24,14 +25,15 @@ use Rattle.policy_state.specs.Ip4.{protocol, fragment, destination_address, net_
 use Rattle.policy_state.specs.Policy.{ip4}
 use Rattle.policy_state.proofs.AskingLaws.{otherwise-assoc, otherwise-when, reading-cond, reading-over, reading-when, when-cond}
 use Rattle.policy_state.proofs.FieldsSeen.{number_seen, bytes_seen}
-use Rattle.rule_items.specs.Building.{fixed, counting, jump, jump_if, jump_unless, load, to_end}
-use Rattle.rule_items.specs.Fragment.{IsPart}
-use Rattle.rule_items.specs.Rulings.{said_of}
-use Rattle.rule_items.specs.Saying.{Tells}
-use Rattle.rule_items.proofs.Parts.{part-yields}
-use Rattle.rule_items.proofs.Rules.{Yields, frame_bytes, done, restated, counts, places, adds, masks, recalls_0, recalls_1, reads_byte, reads_half, reads_half_at, reads_word, answers, answers_if, answers_unless, labelled, leaves_if, leaves_unless, skips_if, then_on, told}
-use Rattle.rule_items.proofs.Rulings.{rulings}
-use Rattle.ip_rules.specs.Ip4Listing.{header_into, dhcp_items, net_items, destination_items, filtered_items, last_items, ip4_items, IsMac}
+use Rattle.apf_asm.specs.Building.{fixed, count, jump, jump_if, jump_unless, load, to_end}
+use Rattle.apf_asm.specs.Fragment.{IsPart}
+use Rattle.policy_state.specs.Rulings.{said_of}
+use Rattle.apf_asm.specs.Saying.{Tells}
+use Rattle.apf_asm.proofs.Parts.{part-yields}
+use Rattle.apf_asm.proofs.Rules.{Yields, frame_bytes, done, restated, counts, places, adds, masks, recalls_0, recalls_1, reads_byte, reads_half, reads_half_at, reads_word, answers, answers_if, answers_unless, labelled, leaves_if, leaves_unless, skips_if, then_on, told}
+use Rattle.policy_state.proofs.Rulings.{rulings}
+use Rattle.policy_state.specs.Ranges.{IsMac}
+use Rattle.ip_rules.specs.Ip4Listing.{header_into, dhcp_items, net_items, destination_items, filtered_items, last_items, ip4_items}
 use Rattle.ip_rules.proofs.HeaderSeen.{header_slot, bytes_behind, number_behind}
 
 -- ---- the rulings as the items come to them
@@ -137,7 +139,7 @@ before_label away xs = xs ++ (items.Label away ∷ [])
 
 module _ (n : ℕ) (frame : List ℕ) (m : State) (slot : get_or m.slots 13 0 ≡ header_length frame) (mac : List ℕ) (is_mac : IsMac mac) (away : ℕ) (le : 2 ≤ away) where
   abbrev passed_items : List Item
-  passed_items = counting PassedDhcp ∷ jump (to_end Pass) ∷ []
+  passed_items = count (number_of PassedDhcp) ∷ jump (to_end Pass) ∷ []
 
   abbrev client_items : List Item
   client_items = header_into 0 ∷ fixed Add 0 1 50 ∷ jump_unless mac (targets.Label away) ∷ passed_items
@@ -193,7 +195,7 @@ module _ (n : ℕ) (frame : List ℕ) (m : State) where
   net_yields None d r1 = done rulings n frame m d r1
   net_yields (Some address) d r1 = go (ltb address.prefix 31)
     where
-      go : (b : Bool) → Yields rulings n frame m d r1 (when b (when (eqb d (net_broadcast_of address)) (Says Drop DroppedIpv4BroadcastNet))) (cond b (counting DroppedIpv4BroadcastNet ∷ jump_if Jeq (net_broadcast_of address) (to_end Drop) ∷ []) [])
+      go : (b : Bool) → Yields rulings n frame m d r1 (when b (when (eqb d (net_broadcast_of address)) (Says Drop DroppedIpv4BroadcastNet))) (cond b (count (number_of DroppedIpv4BroadcastNet) ∷ jump_if Jeq (net_broadcast_of address) (to_end Drop) ∷ []) [])
       go true =
           restated rulings n frame m d r1 _ _ _ (when-cond (eqb d (net_broadcast_of address)) (Says Drop DroppedIpv4BroadcastNet))
           (counts rulings n frame m d r1 DroppedIpv4BroadcastNet _ _

@@ -3,8 +3,8 @@ use Rattle.std.proofs.Common.{◌≡◌, ℕ, ◌+◌, ◌≤◌, List, ◌++◌
 use Rattle.apf_asm.specs.declared.item.Item.{Item}
 use Rattle.policy_state.specs.declared.basis.Basis.{Basis}
 use Rattle.policy_state.specs.Ip6.{ip6_header_lines}
-use Rattle.rule_items.specs.Fragment.{Emits, IsFragment}
-use Rattle.rule_items.specs.Rulings.{said_of}
+use Rattle.apf_asm.specs.Fragment.{Emits, IsFragment}
+use Rattle.policy_state.specs.Rulings.{said_of}
 use Rattle.ip_rules.specs.Ip6Listing.{ip6_items}
 use Rattle.ip_rules.proofs.Ip6Ruling.{ip6_tells}
 use Rattle.ip_rules.proofs.Ip6Sound.{ip6_fragment}

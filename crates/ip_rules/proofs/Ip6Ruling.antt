@@ -17,11 +17,11 @@ use Rattle.policy_state.specs.Asking.{reading, when, otherwise}
 use Rattle.policy_state.specs.Ip6.{next_header, icmp_type, by_destination, all_nodes, ip6_header_lines}
 use Rattle.policy_state.proofs.AskingLaws.{otherwise-silent, otherwise-when, reading-when}
 use Rattle.policy_state.proofs.FieldsSeen.{number_seen, bytes_seen}
-use Rattle.rule_items.specs.Building.{to_end, load, jump_if, jump}
-use Rattle.rule_items.specs.Saying.{Tells}
-use Rattle.rule_items.specs.Rulings.{said_of}
-use Rattle.rule_items.proofs.Rules.{Yields, done, restated, counts, places, reads_byte, answers, answers_if, leaves_if, leaves_unless, skips_if, then_on, labelled, told}
-use Rattle.rule_items.proofs.Rulings.{rulings}
+use Rattle.apf_asm.specs.Building.{to_end, load, jump_if, jump}
+use Rattle.apf_asm.specs.Saying.{Tells}
+use Rattle.policy_state.specs.Rulings.{said_of}
+use Rattle.apf_asm.proofs.Rules.{Yields, done, restated, counts, places, reads_byte, answers, answers_if, leaves_if, leaves_unless, skips_if, then_on, labelled, told}
+use Rattle.policy_state.proofs.Rulings.{rulings}
 use Rattle.ip_rules.specs.Ip6Listing.{destination_items, advertisement_items, message_items, unfiltered_items, filtered_items, dozing_items, items_by, ip6_items}
 
 -- ---- the rulings as the items come to them

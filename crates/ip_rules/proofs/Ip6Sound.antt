@@ -6,25 +6,26 @@ use Rattle.apf_asm.specs.declared.item.Item.TheVariants as items
 use Rattle.apf_asm.specs.declared.item.Target.TheVariants as targets
 use Rattle.apf_asm.specs.Layout.{wide_length}
 use Rattle.data_counters.specs.declared.counter.Counter.TheVariants.{PassedIpv6NonIcmp, PassedIpv6UnicastNonIcmp, DroppedIpv6RouterSolicitation, DroppedIpv6MulticastNa, DroppedIpv6Multicast}
+use Rattle.data_counters.specs.Counters.{number_of}
 use Rattle.policy_state.specs.declared.basis.Basis.{Basis}
 use Rattle.policy_state.specs.Ip6.{all_nodes}
-use Rattle.rule_items.specs.Building.{to_end, load, jump_if, jump}
-use Rattle.rule_items.specs.Fragment.{AreFresh, IsFragment, labels}
-use Rattle.rule_items.proofs.Forms.{IsSound, stands-here, bytes_fit, sound-nil, sound-append, sound-byte, sound-if_end, sound-if_label, sound-jump_end, sound-unless_label, sound-label}
-use Rattle.rule_items.proofs.Parts.{fragment-of}
-use Rattle.rule_items.proofs.Rulings.{sound-counting}
+use Rattle.apf_asm.specs.Building.{to_end, load, jump_if, jump}
+use Rattle.apf_asm.specs.Fragment.{AreFresh, IsFragment, labels}
+use Rattle.apf_asm.proofs.Forms.{IsSound, stands-here, bytes_fit, sound-nil, sound-append, sound-byte, sound-if_end, sound-if_label, sound-jump_end, sound-unless_label, sound-label, sound-count}
+use Rattle.apf_asm.proofs.Parts.{fragment-of}
+use Rattle.policy_state.proofs.Rulings.{has_word}
 use Rattle.ip_rules.specs.Ip6Listing.{destination_items, advertisement_items, message_items, filtered_items, dozing_items, items_by, ip6_items}
 
 sound-destination : IsSound destination_items
 sound-destination =
-    sound-counting DroppedIpv6Multicast _ (sound-byte Ldb 0 38 _ refl (lit< tt) (lit< tt) (sound-if_end Jeq 0xff Drop _ refl (lit< tt)
-    (sound-counting PassedIpv6UnicastNonIcmp _ (sound-jump_end Pass [] sound-nil))))
+    sound-count (number_of DroppedIpv6Multicast) _ (has_word DroppedIpv6Multicast) (sound-byte Ldb 0 38 _ refl (lit< tt) (lit< tt) (sound-if_end Jeq 0xff Drop _ refl (lit< tt)
+    (sound-count (number_of PassedIpv6UnicastNonIcmp) _ (has_word PassedIpv6UnicastNonIcmp) (sound-jump_end Pass [] sound-nil))))
 
 sound-message : (over : ℕ) → IsSound (message_items over)
 sound-message over =
-    sound-byte Ldb 0 54 _ refl (lit< tt) (lit< tt) (sound-counting DroppedIpv6RouterSolicitation _ (sound-if_end Jeq 133 Drop _ refl (lit< tt)
+    sound-byte Ldb 0 54 _ refl (lit< tt) (lit< tt) (sound-count (number_of DroppedIpv6RouterSolicitation) _ (has_word DroppedIpv6RouterSolicitation) (sound-if_end Jeq 133 Drop _ refl (lit< tt)
     (sound-if_label Jne 136 over (advertisement_items over ++ (items.Label over ∷ [])) refl (lit< tt) (stands-here over (advertisement_items over) [])
-    (sound-byte Li 0 38 _ refl (lit< tt) (lit< tt) (sound-counting DroppedIpv6MulticastNa _
+    (sound-byte Li 0 38 _ refl (lit< tt) (lit< tt) (sound-count (number_of DroppedIpv6MulticastNa) _ (has_word DroppedIpv6MulticastNa)
     (sound-unless_label all_nodes over _ (lit< tt) (lit≤ tt) (bytes_fit all_nodes refl) (stands-here over (jump (to_end Drop) ∷ []) [])
     (sound-jump_end Drop _ (sound-label over [] sound-nil))))))))
 
@@ -47,7 +48,7 @@ sound-dozing destination message over =
 
 sound-by : (multicast doze : Bool) (next : ℕ) → IsSound (items_by multicast doze next)
 sound-by false doze next =
-    sound-byte Ldb 0 20 _ refl (lit< tt) (lit< tt) (sound-counting PassedIpv6NonIcmp _ (sound-if_end Jne 58 Pass _ refl (lit< tt) (sound-message next)))
+    sound-byte Ldb 0 20 _ refl (lit< tt) (lit< tt) (sound-count (number_of PassedIpv6NonIcmp) _ (has_word PassedIpv6NonIcmp) (sound-if_end Jne 58 Pass _ refl (lit< tt) (sound-message next)))
 sound-by true false next = sound-filtered (next + 1) next
 sound-by true true next = sound-dozing (next + 2) (next + 1) next
 

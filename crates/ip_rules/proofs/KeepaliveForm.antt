@@ -6,13 +6,14 @@ use Rattle.apf_coding.specs.declared.machine.Verdict.TheVariants.{Drop}
 use Rattle.apf_asm.specs.declared.item.Target.TheVariants as targets
 use Rattle.apf_asm.specs.Layout.{wide_length}
 use Rattle.data_counters.specs.declared.counter.Counter.TheVariants.{DroppedIpv4KeepaliveAck}
+use Rattle.data_counters.specs.Counters.{number_of}
 use Rattle.policy_state.specs.declared.state.Keepalive.{Keepalive}
 use Rattle.policy_state.specs.Ip4.{ends_of, opening_of}
-use Rattle.rule_items.specs.Building.{fixed, counting, jump, jump_if_r1, jump_unless, load, to_end}
-use Rattle.rule_items.specs.Fragment.{AreFresh, IsFragment, labels}
-use Rattle.rule_items.proofs.Forms.{IsSound, stands-here, sound-nil, sound-byte, sound-fixed, sound-if_r1_label, sound-jump_end, sound-unless_label, sound-label}
-use Rattle.rule_items.proofs.Parts.{fragment-of}
-use Rattle.rule_items.proofs.Rulings.{sound-counting}
+use Rattle.apf_asm.specs.Building.{fixed, count, jump, jump_if_r1, jump_unless, load, to_end}
+use Rattle.apf_asm.specs.Fragment.{AreFresh, IsFragment, labels}
+use Rattle.apf_asm.proofs.Forms.{IsSound, stands-here, sound-nil, sound-byte, sound-fixed, sound-if_r1_label, sound-jump_end, sound-unless_label, sound-label, sound-count}
+use Rattle.apf_asm.proofs.Parts.{fragment-of}
+use Rattle.policy_state.proofs.Rulings.{has_word}
 use Rattle.ip_rules.specs.Ip4Listing.{header_into, answer_items}
 
 -- ---- bytes of numbers
@@ -39,14 +40,14 @@ opening_bytes sent = each_byte (opening_of sent) (byte _, (byte _, (byte _, (byt
 
 sound-answer : (away : ℕ) (sent : Keepalive) → IsSound (answer_items away sent)
 sound-answer away sent =
-    let dropped = counting DroppedIpv4KeepaliveAck ∷ jump (to_end Drop) ∷ [] in
+    let dropped = count (number_of DroppedIpv4KeepaliveAck) ∷ jump (to_end Drop) ∷ [] in
     let opening = header_into 0 ∷ fixed Add 0 1 14 ∷ jump_unless (opening_of sent) (targets.Label away) ∷ dropped in
     let size = header_into 1 ∷ load Ldbx 26 ∷ fixed Div 0 1 4 ∷ fixed Add 1 0 0 ∷ fixed Ldh 1 1 16 ∷ jump_if_r1 Jne (targets.Label away) ∷ opening in
     sound-byte Li 0 26 _ refl (lit< tt) (lit< tt) (sound-unless_label (ends_of sent) away _ (lit< tt) (lit≤ tt) (ends_bytes sent) (stands-here away size [])
     (sound-byte Ext 1 13 _ refl (lit< tt) (lit< tt) (sound-byte Ldbx 0 26 _ refl (lit< tt) (lit< tt) (sound-byte Div 0 4 _ refl (lit< tt) (lit< tt) (sound-fixed Add 1 0 0 _ refl (lit< tt) (inl refl) (lit< tt)
     (sound-byte Ldh 1 16 _ refl (lit< tt) (lit< tt) (sound-if_r1_label Jne away _ refl (stands-here away opening [])
     (sound-byte Ext 0 13 _ refl (lit< tt) (lit< tt) (sound-byte Add 0 14 _ refl (lit< tt) (lit< tt) (sound-unless_label (opening_of sent) away _ (lit< tt) (lit≤ tt) (opening_bytes sent) (stands-here away dropped [])
-    (sound-counting DroppedIpv4KeepaliveAck _ (sound-jump_end Drop _ (sound-label away [] sound-nil)))))))))))))
+    (sound-count (number_of DroppedIpv4KeepaliveAck) _ (has_word DroppedIpv4KeepaliveAck) (sound-jump_end Drop _ (sound-label away [] sound-nil)))))))))))))
 
 wide-answer : (away : ℕ) (sent : Keepalive) → wide_length (answer_items away sent) ≤ 65
 wide-answer away sent = lit≤ tt

@@ -10,6 +10,7 @@ use Rattle.apf_asm.specs.declared.item.Item.TheVariants as items
 use Rattle.apf_asm.specs.declared.item.Target.TheVariants as targets
 use Rattle.apf_asm.specs.Refusals.{stands}
 use Rattle.data_counters.specs.declared.counter.Counter.TheVariants.{DroppedIpv4KeepaliveAck}
+use Rattle.data_counters.specs.Counters.{number_of}
 use Rattle.frame_views.specs.Fields.{field, part}
 use Rattle.frame_views.specs.Packets.{header_length}
 use Rattle.policy_state.specs.declared.ruling.Ruling.{Ruling}
@@ -19,11 +20,11 @@ use Rattle.policy_state.specs.Asking.{reading, when}
 use Rattle.policy_state.specs.Ip4.{ends_of, opening_of, keepalive_answer}
 use Rattle.policy_state.proofs.AskingLaws.{reading-when}
 use Rattle.policy_state.proofs.FieldsSeen.{number_seen, bytes_seen}
-use Rattle.rule_items.specs.Building.{fixed, counting, jump, jump_if_r1, jump_unless, load, to_end}
-use Rattle.rule_items.specs.Rulings.{said_of}
-use Rattle.rule_items.specs.Saying.{Tells}
-use Rattle.rule_items.proofs.Rules.{Yields, above_two, done, restated, counts, places, adds, adds_r1, divides, recalls_0, recalls_1, reads_half_1, reads_byte_known_at, answers, labelled, leaves_if_r1, leaves_unless, told}
-use Rattle.rule_items.proofs.Rulings.{rulings}
+use Rattle.apf_asm.specs.Building.{fixed, count, jump, jump_if_r1, jump_unless, load, to_end}
+use Rattle.policy_state.specs.Rulings.{said_of}
+use Rattle.apf_asm.specs.Saying.{Tells}
+use Rattle.apf_asm.proofs.Rules.{Yields, above_two, done, restated, counts, places, adds, adds_r1, divides, recalls_0, recalls_1, reads_half_1, reads_byte_known_at, answers, labelled, leaves_if_r1, leaves_unless, told}
+use Rattle.policy_state.proofs.Rulings.{rulings}
 use Rattle.ip_rules.specs.Ip4Listing.{header_into, answer_items}
 use Rattle.ip_rules.proofs.HeaderSeen.{header_small, header_slot, byte_small, bytes_behind, number_behind}
 
@@ -45,7 +46,7 @@ module _ (n : ℕ) (frame : List ℕ) (m : State) (slot : get_or m.slots 13 0 �
   opening_ruling = reading opening (λ there. when (bytes_eq there (opening_of sent)) dropped)
 
   abbrev dropped_items : List Item
-  dropped_items = counting DroppedIpv4KeepaliveAck ∷ jump (to_end Drop) ∷ []
+  dropped_items = count (number_of DroppedIpv4KeepaliveAck) ∷ jump (to_end Drop) ∷ []
 
   abbrev opening_items : ℕ → List Item
   opening_items away = header_into 0 ∷ fixed Add 0 1 14 ∷ jump_unless (opening_of sent) (targets.Label away) ∷ dropped_items

@@ -13,13 +13,14 @@ use Rattle.policy_state.specs.Asking.{reading, when, first_of}
 use Rattle.policy_state.specs.Ip4.{protocol, keepalive_answer, slot_answer, keepalive_answers}
 use Rattle.policy_state.proofs.AskingLaws.{reading-over}
 use Rattle.policy_state.proofs.FieldsSeen.{number_seen}
-use Rattle.rule_items.specs.Fragment.{Emits, IsPart, labels}
-use Rattle.rule_items.specs.Rulings.{said_of}
-use Rattle.rule_items.specs.Saying.{Said, Tells}
-use Rattle.rule_items.proofs.Forms.{sound-nil}
-use Rattle.rule_items.proofs.Parts.{fragment-of, fresh-above, part-then, part-same, part-yields}
-use Rattle.rule_items.proofs.Rules.{done, restated, reads_byte, skips_if, told}
-use Rattle.rule_items.proofs.Rulings.{rulings, said-otherwise}
+use Rattle.apf_asm.specs.Fragment.{Emits, IsPart, labels}
+use Rattle.policy_state.specs.Rulings.{said_of}
+use Rattle.apf_coding.specs.Said.{Said}
+use Rattle.apf_asm.specs.Saying.{Tells}
+use Rattle.apf_asm.proofs.Forms.{sound-nil}
+use Rattle.apf_asm.proofs.Parts.{fragment-of, fresh-above, part-then, part-same, part-yields}
+use Rattle.apf_asm.proofs.Rules.{done, restated, reads_byte, skips_if, told}
+use Rattle.policy_state.proofs.Rulings.{rulings, said-otherwise}
 use Rattle.ip_rules.specs.Ip4Listing.{answer_items, slots_items, segment_items, keepalive_items, label_behind}
 use Rattle.ip_rules.proofs.KeepaliveForm.{answer_fragment}
 use Rattle.ip_rules.proofs.KeepaliveRuling.{answer_tells}

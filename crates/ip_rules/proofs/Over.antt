@@ -8,10 +8,10 @@ use Rattle.apf_asm.specs.declared.item.Item.{Item}
 use Rattle.apf_asm.specs.declared.item.Item.TheVariants as items
 use Rattle.apf_asm.specs.declared.item.Target.TheVariants as targets
 use Rattle.apf_asm.specs.Layout.{wide_size}
-use Rattle.rule_items.specs.Building.{load, jump_if}
-use Rattle.rule_items.specs.Fragment.{IsFragment, labels}
-use Rattle.rule_items.proofs.Forms.{stands-here, sound-nil, sound-byte, sound-if_label, sound-label}
-use Rattle.rule_items.proofs.Parts.{fragment-of, fragment-then, sound-fragment}
+use Rattle.apf_asm.specs.Building.{load, jump_if}
+use Rattle.apf_asm.specs.Fragment.{IsFragment, labels}
+use Rattle.apf_asm.proofs.Forms.{stands-here, sound-nil, sound-byte, sound-if_label, sound-label}
+use Rattle.apf_asm.proofs.Parts.{fragment-of, fragment-then, sound-fragment}
 
 label_fragment : (l : ℕ) → IsFragment l (l + 1) 0 (items.Label l ∷ [])
 unfolding labels

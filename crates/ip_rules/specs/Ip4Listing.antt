@@ -1,6 +1,6 @@
 -- The items of the rules for IPv4 and for keepalives. Headers are those of RFC 791 (IPv4), RFC 768 (UDP), RFC 2131 (DHCP)
 -- and RFC 9293 (TCP).
-use Rattle.std.specs.Prelude.{◌≡◌, ℕ, ◌+◌, ◌<◌, ◌^◌, Bool, true, false, nat_lt, if◌then◌else◌, List, [], ◌∷◌, ◌++◌, length, slice_index, Option, Some, None, count_by, is_some}
+use Rattle.std.specs.Prelude.{ℕ, ◌+◌, ◌<◌, ◌^◌, Bool, true, false, nat_lt, if◌then◌else◌, List, [], ◌∷◌, ◌++◌, Option, Some, None, count_by, is_some}
 use Rattle.std.specs.List.{list_any}
 use Rattle.apf_coding.specs.declared.instruction.Op.TheVariants.{Ldb, Ldh, Ldw, Ldbx, Ldhx, Add, Div, And, Ext, Jeq, Jne, Jset}
 use Rattle.apf_coding.specs.declared.machine.Verdict.TheVariants.{Pass, Drop}
@@ -8,12 +8,13 @@ use Rattle.apf_asm.specs.declared.item.Item.{Item}
 use Rattle.apf_asm.specs.declared.item.Item.TheVariants as items
 use Rattle.apf_asm.specs.declared.item.Target.TheVariants as targets
 use Rattle.data_counters.specs.declared.counter.Counter.TheVariants.{PassedDhcp, PassedIpv4, PassedIpv4Unicast, DroppedIpv4L2Broadcast, DroppedIpv4BroadcastAddr, DroppedIpv4BroadcastNet, DroppedIpv4Multicast, DroppedIpv4KeepaliveAck}
+use Rattle.data_counters.specs.Counters.{number_of}
 use Rattle.policy_state.specs.declared.basis.Basis.{Basis}
 use Rattle.policy_state.specs.declared.state.Address.{Address}
 use Rattle.policy_state.specs.declared.state.Keepalive.{Keepalive}
 use Rattle.policy_state.specs.Ethernet.{broadcast}
 use Rattle.policy_state.specs.Ip4.{net_broadcast_of, ends_of, opening_of}
-use Rattle.rule_items.specs.Building.{to_end, fixed, load, place, counting, jump_if, jump_if_r1, jump, jump_unless}
+use Rattle.apf_asm.specs.Building.{to_end, fixed, load, place, count, jump_if, jump_if_r1, jump, jump_unless}
 
 -- a register is the IPv4 header's length, which is in slot 13
 abbrev pub header_into : ℕ → Item
@@ -28,7 +29,7 @@ answer_items away sent =
     ∷ header_into 1 ∷ load Ldbx 26 ∷ fixed Div 0 1 4 ∷ fixed Add 1 0 0
     ∷ fixed Ldh 1 1 16 ∷ jump_if_r1 Jne (targets.Label away)
     ∷ header_into 0 ∷ fixed Add 0 1 14 ∷ jump_unless (opening_of sent) (targets.Label away)
-    ∷ counting DroppedIpv4KeepaliveAck ∷ jump (to_end Drop)
+    ∷ count (number_of DroppedIpv4KeepaliveAck) ∷ jump (to_end Drop)
     ∷ items.Label away
     ∷ []
 
@@ -59,7 +60,7 @@ dhcp_items away mac =
     ∷ load Ldh 20 ∷ jump_if Jset 0x1fff (targets.Label away)
     ∷ header_into 1 ∷ load Ldhx 16 ∷ jump_if Jne 68 (targets.Label away)
     ∷ header_into 0 ∷ fixed Add 0 1 50 ∷ jump_unless mac (targets.Label away)
-    ∷ counting PassedDhcp ∷ jump (to_end Pass)
+    ∷ count (number_of PassedDhcp) ∷ jump (to_end Pass)
     ∷ items.Label away
     ∷ []
 
@@ -67,14 +68,14 @@ dhcp_items away mac =
 abbrev pub net_items : Option Address → List Item
 net_items None = []
 net_items (Some address) =
-    if nat_lt address.prefix 31 then counting DroppedIpv4BroadcastNet ∷ jump_if Jeq (net_broadcast_of address) (to_end Drop) ∷ []
+    if nat_lt address.prefix 31 then count (number_of DroppedIpv4BroadcastNet) ∷ jump_if Jeq (net_broadcast_of address) (to_end Drop) ∷ []
     else []
 
 -- multicast and broadcast
 abbrev pub destination_items : Option Address → List Item
 destination_items address =
-    load Ldb 30 ∷ fixed And 0 1 0xf0 ∷ counting DroppedIpv4Multicast ∷ jump_if Jeq 0xe0 (to_end Drop)
-    ∷ load Ldw 30 ∷ counting DroppedIpv4BroadcastAddr ∷ jump_if Jeq 0xffffffff (to_end Drop)
+    load Ldb 30 ∷ fixed And 0 1 0xf0 ∷ count (number_of DroppedIpv4Multicast) ∷ jump_if Jeq 0xe0 (to_end Drop)
+    ∷ load Ldw 30 ∷ count (number_of DroppedIpv4BroadcastAddr) ∷ jump_if Jeq 0xffffffff (to_end Drop)
     ∷ net_items address
 
 -- where multicast is filtered
@@ -91,10 +92,10 @@ first_items basis label =
 
 abbrev pub last_items : Bool → List Item
 last_items true =
-    place 0 ∷ counting PassedIpv4Unicast ∷ jump_unless broadcast (to_end Pass)
-    ∷ counting DroppedIpv4L2Broadcast ∷ jump (to_end Drop)
+    place 0 ∷ count (number_of PassedIpv4Unicast) ∷ jump_unless broadcast (to_end Pass)
+    ∷ count (number_of DroppedIpv4L2Broadcast) ∷ jump (to_end Drop)
     ∷ []
-last_items false = counting PassedIpv4 ∷ jump (to_end Pass) ∷ []
+last_items false = count (number_of PassedIpv4) ∷ jump (to_end Pass) ∷ []
 
 -- ---- the whole, round the items for keepalives
 
@@ -105,11 +106,6 @@ ip4_items basis label keepalives =
     ∷ ((filtered_items basis.state.multicast label basis.config.mac basis.state.address ++ (keepalives ++ last_items basis.state.multicast)) ++ (items.Label (label + 1) ∷ []))
 
 -- ---- what is known of the basis
-
--- a MAC
-pub record IsMac (mac : List ℕ) : Type 0 where
-  pub six : length mac ≡ 6
-  pub bytes : (k : ℕ) → slice_index mac k < 256
 
 -- the broadcast address of a net that has one is a number of four bytes
 abbrev pub IsInRange : Option Address → Type 0

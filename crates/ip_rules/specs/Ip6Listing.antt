@@ -6,33 +6,34 @@ use Rattle.apf_asm.specs.declared.item.Item.{Item}
 use Rattle.apf_asm.specs.declared.item.Item.TheVariants as items
 use Rattle.apf_asm.specs.declared.item.Target.TheVariants as targets
 use Rattle.data_counters.specs.declared.counter.Counter.TheVariants.{PassedIpv6NonIcmp, PassedIpv6UnicastNonIcmp, DroppedIpv6RouterSolicitation, DroppedIpv6MulticastNa, DroppedIpv6Multicast}
+use Rattle.data_counters.specs.Counters.{number_of}
 use Rattle.policy_state.specs.declared.basis.Basis.{Basis}
 use Rattle.policy_state.specs.Ip6.{all_nodes}
-use Rattle.rule_items.specs.Building.{to_end, load, place, counting, jump_if, jump, jump_unless}
+use Rattle.apf_asm.specs.Building.{to_end, load, place, count, jump_if, jump, jump_unless}
 
 -- whether a packet is multicast
 abbrev pub destination_items : List Item
 destination_items =
-    counting DroppedIpv6Multicast ∷ load Ldb 38 ∷ jump_if Jeq 0xff (to_end Drop)
-    ∷ counting PassedIpv6UnicastNonIcmp ∷ jump (to_end Pass)
+    count (number_of DroppedIpv6Multicast) ∷ load Ldb 38 ∷ jump_if Jeq 0xff (to_end Drop)
+    ∷ count (number_of PassedIpv6UnicastNonIcmp) ∷ jump (to_end Pass)
     ∷ []
 
 -- to whom a neighbor advertisement goes
 abbrev pub advertisement_items : ℕ → List Item
 advertisement_items over =
-    place 38 ∷ counting DroppedIpv6MulticastNa ∷ jump_unless all_nodes (targets.Label over) ∷ jump (to_end Drop)
+    place 38 ∷ count (number_of DroppedIpv6MulticastNa) ∷ jump_unless all_nodes (targets.Label over) ∷ jump (to_end Drop)
     ∷ []
 
 -- ICMPv6 messages; those that aren't answered go over what is asked of advertisements
 abbrev pub message_items : ℕ → List Item
 message_items over =
-    load Ldb 54 ∷ counting DroppedIpv6RouterSolicitation ∷ jump_if Jeq 133 (to_end Drop)
+    load Ldb 54 ∷ count (number_of DroppedIpv6RouterSolicitation) ∷ jump_if Jeq 133 (to_end Drop)
     ∷ jump_if Jne 136 (targets.Label over)
     ∷ (advertisement_items over ++ (items.Label over ∷ []))
 
 -- where multicast isn't filtered
 abbrev pub unfiltered_items : ℕ → List Item
-unfiltered_items over = load Ldb 20 ∷ counting PassedIpv6NonIcmp ∷ jump_if Jne 58 (to_end Pass) ∷ message_items over
+unfiltered_items over = load Ldb 20 ∷ count (number_of PassedIpv6NonIcmp) ∷ jump_if Jne 58 (to_end Pass) ∷ message_items over
 
 -- where it is: ICMPv6 messages go over what is asked of the destination
 abbrev pub filtered_items : ℕ → ℕ → List Item

@@ -3,17 +3,17 @@
 ghost use Rattle.std.specs.Prelude.{◌≡◌, ◌+◌, ◌*◌, ◌≤◌, ◌++◌, true, IfOk, OnOk, OnErr, count_by, is_some};
 ghost use Rattle.apf_coding.specs.Writing.{Extends};
 ghost use Rattle.policy_state.specs.Policy.{ip4};
-ghost use Rattle.rule_items.specs.Fragment.{Emits};
-ghost use Rattle.rule_items.specs.Rulings.{said_of};
-ghost use Rattle.ip_rules.specs.Ip4Listing.{keepalive_items, dhcp_items, net_items, destination_items, filtered_items, first_items, last_items, ip4_items, IsMac, IsInRange};
+ghost use Rattle.apf_asm.specs.Fragment.{Emits};
+ghost use Rattle.policy_state.specs.Rulings.{said_of};
+ghost use Rattle.policy_state.specs.Ranges.{IsMac};
+ghost use Rattle.ip_rules.specs.Ip4Listing.{keepalive_items, dhcp_items, net_items, destination_items, filtered_items, first_items, last_items, ip4_items, IsInRange};
 
 use crate::keepalives::{add_keepalives, header_into, label_behind};
-use apf_asm::{Item, Target};
+use apf_asm::{Item, Target, count, fixed, jump, jump_if, jump_unless, load, place, to_end};
 use apf_base::{List, OutOfMemory};
 use apf_coding::{Op, Verdict};
 use data_counters::Counter;
 use policy_state::{Address, Basis};
-use rule_items::{counting, fixed, jump, jump_if, jump_unless, load, place, to_end};
 use std::alloc::Global;
 
 /// The broadcast MAC.
@@ -38,7 +38,7 @@ fn dhcp_items(alloc: Global, away: u32, mac: &[u8; 6]) -> Result<List<Item>, Out
             header_into(alloc, 0),
             fixed(alloc, Op::Add, 0, 1, 50),
             client,
-            counting(alloc, Counter::PassedDhcp),
+            count(alloc, Counter::PassedDhcp.number()),
             jump(alloc, to_end(Verdict::Pass)),
             Item::Label(away),
         ],
@@ -60,7 +60,7 @@ fn add_net(alloc: Global, address: Option<Address>, out: &mut List<Item>) -> Res
     out.append(List::of(
         alloc,
         [
-            counting(alloc, Counter::DroppedIpv4BroadcastNet),
+            count(alloc, Counter::DroppedIpv4BroadcastNet.number()),
             jump_if(alloc, Op::Jeq, own.net_broadcast(), to_end(Verdict::Drop)),
         ],
     )?)
@@ -81,10 +81,10 @@ fn add_destination(
         [
             load(alloc, Op::Ldb, 30),
             fixed(alloc, Op::And, 0, 1, 0xf0),
-            counting(alloc, Counter::DroppedIpv4Multicast),
+            count(alloc, Counter::DroppedIpv4Multicast.number()),
             jump_if(alloc, Op::Jeq, 0xe0, to_end(Verdict::Drop)),
             load(alloc, Op::Ldw, 30),
-            counting(alloc, Counter::DroppedIpv4BroadcastAddr),
+            count(alloc, Counter::DroppedIpv4BroadcastAddr.number()),
             jump_if(alloc, Op::Jeq, 0xffff_ffff, to_end(Verdict::Drop)),
         ],
     )?)?;
@@ -121,7 +121,7 @@ fn add_last(alloc: Global, multicast: bool, out: &mut List<Item>) -> Result<(), 
         return out.append(List::of(
             alloc,
             [
-                counting(alloc, Counter::PassedIpv4),
+                count(alloc, Counter::PassedIpv4.number()),
                 jump(alloc, to_end(Verdict::Pass)),
             ],
         )?);
@@ -131,9 +131,9 @@ fn add_last(alloc: Global, multicast: bool, out: &mut List<Item>) -> Result<(), 
         alloc,
         [
             place(alloc, 0),
-            counting(alloc, Counter::PassedIpv4Unicast),
+            count(alloc, Counter::PassedIpv4Unicast.number()),
             unicast,
-            counting(alloc, Counter::DroppedIpv4L2Broadcast),
+            count(alloc, Counter::DroppedIpv4L2Broadcast.number()),
             jump(alloc, to_end(Verdict::Drop)),
         ],
     )?)

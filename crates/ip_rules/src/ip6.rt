@@ -3,16 +3,15 @@
 ghost use Rattle.std.specs.Prelude.{◌≡◌, ◌+◌, ◌≤◌, ◌++◌, OnOk, OnErr};
 ghost use Rattle.apf_coding.specs.Writing.{Extends};
 ghost use Rattle.policy_state.specs.Ip6.{ip6_header_lines};
-ghost use Rattle.rule_items.specs.Fragment.{Emits};
-ghost use Rattle.rule_items.specs.Rulings.{said_of};
+ghost use Rattle.apf_asm.specs.Fragment.{Emits};
+ghost use Rattle.policy_state.specs.Rulings.{said_of};
 ghost use Rattle.ip_rules.specs.Ip6Listing.{destination_items, message_items, unfiltered_items, filtered_items, dozing_items, ip6_items};
 
-use apf_asm::{Item, Target};
+use apf_asm::{Item, Target, count, jump, jump_if, jump_unless, load, place, to_end};
 use apf_base::{List, OutOfMemory};
 use apf_coding::{Op, Verdict};
 use data_counters::Counter;
 use policy_state::Basis;
-use rule_items::{counting, jump, jump_if, jump_unless, load, place, to_end};
 use std::alloc::Global;
 
 /// The address of all nodes of a link, ff02::1 (RFC 4291, section 2.7.1).
@@ -36,10 +35,10 @@ fn add_destination(alloc: Global, out: &mut List<Item>) -> Result<(), OutOfMemor
     out.append(List::of(
         alloc,
         [
-            counting(alloc, Counter::DroppedIpv6Multicast),
+            count(alloc, Counter::DroppedIpv6Multicast.number()),
             load(alloc, Op::Ldb, 38),
             jump_if(alloc, Op::Jeq, 0xff, to_end(Verdict::Drop)),
-            counting(alloc, Counter::PassedIpv6UnicastNonIcmp),
+            count(alloc, Counter::PassedIpv6UnicastNonIcmp.number()),
             jump(alloc, to_end(Verdict::Pass)),
         ],
     )?)
@@ -55,11 +54,11 @@ fn add_message(alloc: Global, over: u32, out: &mut List<Item>) -> Result<(), Out
         alloc,
         [
             load(alloc, Op::Ldb, 54),
-            counting(alloc, Counter::DroppedIpv6RouterSolicitation),
+            count(alloc, Counter::DroppedIpv6RouterSolicitation.number()),
             jump_if(alloc, Op::Jeq, ROUTER_SOLICITATION, to_end(Verdict::Drop)),
             jump_if(alloc, Op::Jne, NEIGHBOR_ADVERTISEMENT, Target::Label(over)),
             place(alloc, 38),
-            counting(alloc, Counter::DroppedIpv6MulticastNa),
+            count(alloc, Counter::DroppedIpv6MulticastNa.number()),
             other,
             jump(alloc, to_end(Verdict::Drop)),
             Item::Label(over),
@@ -76,7 +75,7 @@ fn add_unfiltered(alloc: Global, over: u32, out: &mut List<Item>) -> Result<(), 
         alloc,
         [
             load(alloc, Op::Ldb, 20),
-            counting(alloc, Counter::PassedIpv6NonIcmp),
+            count(alloc, Counter::PassedIpv6NonIcmp.number()),
             jump_if(alloc, Op::Jne, ICMP6, to_end(Verdict::Pass)),
         ],
     )?)?;

@@ -3,16 +3,17 @@
 ghost use Rattle.std.specs.Prelude.{◌≡◌, ◌+◌, ◌*◌, ◌≤◌, ◌++◌, IfOk, OnOk, OnErr, count_by, is_some};
 ghost use Rattle.apf_coding.specs.Writing.{Extends};
 ghost use Rattle.policy_state.specs.Ip4.{keepalive_answers};
-ghost use Rattle.rule_items.specs.Fragment.{Emits};
-ghost use Rattle.rule_items.specs.Rulings.{said_of};
+ghost use Rattle.apf_asm.specs.Fragment.{Emits};
+ghost use Rattle.policy_state.specs.Rulings.{said_of};
 ghost use Rattle.ip_rules.specs.Ip4Listing.{header_into, answer_items, slots_items, segment_items, keepalive_items, label_behind};
 
-use apf_asm::{Item, Target};
+use apf_asm::{
+    Item, Target, count, fixed, jump, jump_if, jump_if_r1, jump_unless, load, place, to_end,
+};
 use apf_base::{List, OutOfMemory};
 use apf_coding::{Op, Verdict};
 use data_counters::Counter;
 use policy_state::{Basis, FilterState, Keepalive};
-use rule_items::{counting, fixed, jump, jump_if, jump_if_r1, jump_unless, load, place, to_end};
 use std::alloc::Global;
 
 /// A register is the IPv4 header's length, which is in slot 13.
@@ -42,7 +43,7 @@ fn answer_items(alloc: Global, away: u32, sent: &Keepalive) -> Result<List<Item>
             header_into(alloc, 0),
             fixed(alloc, Op::Add, 0, 1, 14),
             opening,
-            counting(alloc, Counter::DroppedIpv4KeepaliveAck),
+            count(alloc, Counter::DroppedIpv4KeepaliveAck.number()),
             jump(alloc, to_end(Verdict::Drop)),
             Item::Label(away),
         ],

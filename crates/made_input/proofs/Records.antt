@@ -1,6 +1,6 @@
 -- The frames are short, and their records are those that are written.
 use Rattle.std.proofs.Common.{◌≡◌, ℕ, ◌+◌, ◌/◌, ◌%◌, ◌≤◌, Bool, true, false, cond, List, length, refl, eqb, lit≤}
-use Rattle.pcap_files.specs.Capture.{record_bytes}
+use Rattle.pcap_files.specs.Writing.{record_bytes}
 use Rattle.made_input.specs.MadeFrames.{arp_frame, datagram, advertisement, denied_frame, name_query, made_frame}
 use Rattle.made_input.specs.MadeCaptures.{made_record}
 

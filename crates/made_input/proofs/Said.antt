@@ -137,7 +137,7 @@ events_rise latest a (suc m) le = (le, events_rise (doze_second a) (a + 1) m (om
 sound : (n : ℕ) → n ≤ 100000 → IsSound (made_contents n)
 unfolding made_contents
 sound n le = record {
-  mac = record { six = refl; fit = mac_fits };
+  mac = record { six = refl; bytes = mac_fits };
   capacity = record { least = lit≤ tt; most = lit≤ tt };
   start = lit< tt;
   deny = record { few = lit≤ tt; fit = All-from_recursion (λ e. e < 2 ^ 16) (0x88a2 ∷ []) (lit< tt, tt) };

@@ -6,7 +6,8 @@ use Rattle.std.proofs.lemmas.List.{flat_map_more, length-append, map-append}
 use Rattle.pcap_files.specs.declared.kinds.Stamp.{Stamp}
 use Rattle.pcap_files.specs.declared.kinds.Placed.{Placed}
 use Rattle.pcap_files.specs.declared.kinds.Records.{Records}
-use Rattle.pcap_files.specs.Capture.{capture, frame_of, frames, head_bytes, record_bytes, IsInRange}
+use Rattle.pcap_files.specs.Capture.{capture, frame_of, frames}
+use Rattle.pcap_files.specs.Writing.{head_bytes, record_bytes, IsInRange}
 use Rattle.pcap_files.proofs.Adding.{head_reads_back, put_reads_back}
 use Rattle.made_input.specs.MadeFrames.{made_frame}
 use Rattle.made_input.specs.MadeCaptures.{made_kind, made_stamp, made_record, made_capture}

@@ -3,7 +3,7 @@ use Rattle.std.specs.Prelude.{ℕ, ◌+◌, false, List, ◌++◌, length}
 use Rattle.std.specs.List.{flat_map, range_with_len}
 use Rattle.pcap_files.specs.declared.kinds.Kind.{Kind}
 use Rattle.pcap_files.specs.declared.kinds.Stamp.{Stamp}
-use Rattle.pcap_files.specs.Capture.{head_bytes, record_bytes}
+use Rattle.pcap_files.specs.Writing.{head_bytes, record_bytes}
 use Rattle.made_input.specs.MadeFrames.{made_frame}
 
 -- little-endian, with microseconds

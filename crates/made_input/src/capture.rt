@@ -1,7 +1,7 @@
 //! The made capture.
 
 ghost use Rattle.std.specs.Prelude.{◌≡◌, ◌≤◌, ◌++◌, OnOk, IfOk};
-ghost use Rattle.pcap_files.specs.Capture.{head_bytes};
+ghost use Rattle.pcap_files.specs.Writing.{head_bytes};
 ghost use Rattle.made_input.specs.MadeCaptures.{made_kind, made_record, made_capture};
 
 use crate::frames::made_frame;

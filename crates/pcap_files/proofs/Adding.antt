@@ -13,7 +13,8 @@ use Rattle.pcap_files.specs.declared.kinds.Placed.{Placed}
 use Rattle.pcap_files.specs.declared.kinds.Records.{Records}
 use Rattle.pcap_files.specs.declared.fault.PcapError.{PcapError}
 use Rattle.pcap_files.specs.declared.fault.PcapError.TheVariants.{Version, Cut, TooLong, Length}
-use Rattle.pcap_files.specs.Capture.{number_at, bytes_of, kind_by, kind_of, has_version, of_link, of_kind, head_of, record_at, records_from, captured, capture, frame_of, frames, IsWithin, head_bytes, record_bytes, faultless, IsInRange, IsAdded}
+use Rattle.pcap_files.specs.Capture.{number_at, kind_by, kind_of, has_version, of_link, of_kind, head_of, record_at, records_from, captured, capture, frame_of, frames, IsWithin}
+use Rattle.pcap_files.specs.Writing.{bytes_of, head_bytes, record_bytes, faultless, IsInRange, IsAdded}
 use Rattle.pcap_files.proofs.Heads.{IsAccepted, head-accepted}
 use Rattle.pcap_files.proofs.Walk.{before, whole, one_more, within_of}
 

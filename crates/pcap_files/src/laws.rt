@@ -2,7 +2,8 @@
 
 ghost use Rattle.std.specs.Prelude.{◌≡◌, ℕ, List, length, Some, None, Err};
 ghost use Rattle.std.specs.List.{AllByRecursion};
-ghost use Rattle.pcap_files.specs.Capture.{capture, head_of, AreConsecutive, behind, StandsIn, StopsAt};
+ghost use Rattle.pcap_files.specs.Capture.{capture, head_of};
+ghost use Rattle.pcap_files.specs.Tiling.{AreConsecutive, behind, StandsIn, StopsAt};
 ghost use Rattle.pcap_files.specs.declared.kinds.Kind.{Kind as Written};
 ghost use Rattle.pcap_files.specs.declared.fault.PcapError.{PcapError as Refusal};
 

@@ -1,7 +1,8 @@
 //! Numbers of a capture, in the order of its bytes.
 
 ghost use Rattle.std.specs.Prelude.{◌≡◌, ◌≤◌, ◌+◌, ◌++◌, length, OnOk};
-ghost use Rattle.pcap_files.specs.Capture.{number_at, bytes_of};
+ghost use Rattle.pcap_files.specs.Capture.{number_at};
+ghost use Rattle.pcap_files.specs.Writing.{bytes_of};
 
 use apf_base::{List, OutOfMemory};
 use byteorder::{BigEndian, ByteOrder, LittleEndian};

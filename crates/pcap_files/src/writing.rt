@@ -1,7 +1,8 @@
 //! File headers and records as bytes.
 
 ghost use Rattle.std.specs.Prelude.{◌≡◌, [], ◌≤◌, ◌++◌, length, IfOk, OnOk, OnErr, Some, None};
-ghost use Rattle.pcap_files.specs.Capture.{capture, head_bytes, record_bytes, faultless, IsInRange, IsAdded};
+ghost use Rattle.pcap_files.specs.Capture.{capture};
+ghost use Rattle.pcap_files.specs.Writing.{head_bytes, record_bytes, faultless, IsInRange, IsAdded};
 
 use crate::kinds::{Kind, Stamp};
 use crate::numbers::{add_half, add_word};

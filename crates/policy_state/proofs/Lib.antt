@@ -1,3 +1,4 @@
 pub mod AskingLaws
 pub mod FieldsSeen
+pub mod Rulings
 pub mod Verdicts

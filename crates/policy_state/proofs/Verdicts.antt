@@ -21,7 +21,7 @@ use Rattle.policy_state.specs.Ip4.{protocol, destination_address, fragment, dhcp
 use Rattle.ra_records.specs.Advert.{same}
 use Rattle.std.specs.List.{list_all, list_any}
 use Rattle.policy_state.specs.Records.{lasts, advertised_again}
-use Rattle.policy_state.specs.Policy.{is_denied, frames_802_3, denied_types, link, for_other_addresses, unknown_operations, replies_of_no_host, unicast_replies, arp_opening, arp_operation, arp_sender, arp_target, gratuitous_arp, arp_for_other_hosts, arp, ip4, ip6, others, questions}
+use Rattle.policy_state.specs.Policy.{is_denied, frames_802_3, denied_types, link, for_other_addresses, unknown_operations, replies_of_no_host, unicast_replies, arp_opening, arp_operation, arp_sender, arp_target, gratuitous_arp, arp_for_other_hosts, arp, ip4, ip6, others, questions, arp_lines}
 use Rattle.policy_state.specs.Ip6.{next_header, icmp_type, by_destination, echo_requests, ip6_multicast, ip6_other_than_icmp, router_solicitations, all_nodes, advertisements_to_all_nodes, ip6_header_lines}
 use Rattle.policy_state.specs.Whole.{Short, Says, fate_of, policy}
 
@@ -247,13 +247,26 @@ pub ip4-answers : (basis : Basis) (frame : List ℕ) → ethertype frame ≡ Som
 ip4-answers basis frame e silent =
     ip4_lines-answer basis frame (sym (ap (λ (o : Option ℕ). reading o (λ t. when (eqb t 0x800) (ip4_lines basis frame))) e) ∙ silent)
 
-other_test : (t : Bool) (e : ℕ) (a : Ruling) → eqb e 0x800 ≡ t → e ≢ 0x800 → when t a ≡ rulings.Silent
-other_test true e a is other = absurd (other (eqb-true e 0x800 is))
-other_test false e a is other = refl
+other_test : (t : Bool) (type e : ℕ) (a : Ruling) → eqb e type ≡ t → e ≢ type → when t a ≡ rulings.Silent
+other_test true type e a is other = absurd (other (eqb-true e type is))
+other_test false type e a is other = refl
 
-pub ip4-silent : (basis : Basis) (frame : List ℕ) (e : ℕ) → ethertype frame ≡ Some e → e ≢ 0x800 → ip4 basis frame ≡ rulings.Silent
-ip4-silent basis frame e there other =
-    ap (λ (o : Option ℕ). reading o (λ t. when (eqb t 0x800) (ip4_lines basis frame))) there ∙ other_test (eqb e 0x800) e (ip4_lines basis frame) refl other
+-- a question on frames of one ethertype is silent on the others
+pub other-silent : (frame : List ℕ) (type e : ℕ) (a : Ruling) → ethertype frame ≡ Some e → e ≢ type → reading (ethertype frame) (λ t. when (eqb t type) a) ≡ rulings.Silent
+other-silent frame type e a there other = ap (λ (o : Option ℕ). reading o (λ t. when (eqb t type) a)) there ∙ other_test (eqb e type) type e a refl other
+
+arp_lines-answer : (basis : Basis) (frame : List ℕ) → arp_lines basis frame ≢ rulings.Silent
+arp_lines-answer basis frame =
+    later_answers (for_other_addresses frame) _
+    (later_answers (unknown_operations frame) _
+    (later_answers (replies_of_no_host frame) _
+    (later_answers (unicast_replies frame) _
+    (later_answers (gratuitous_arp basis.state.address frame) _
+    (later_answers (arp_for_other_hosts basis.state.address frame) _ (λ e. absurd cc))))))
+
+pub arp-answers : (basis : Basis) (frame : List ℕ) → ethertype frame ≡ Some 0x806 → arp basis frame ≢ rulings.Silent
+arp-answers basis frame e silent =
+    arp_lines-answer basis frame (sym (ap (λ (o : Option ℕ). reading o (λ t. when (eqb t 0x806) (arp_lines basis frame))) e) ∙ silent)
 
 others_answer : (mac : Option (List ℕ)) → otherwise (reading mac (λ m. if bytes_eq m broadcast then rulings.Says Drop DroppedEthBroadcast else rulings.Says Pass PassedNonIpUnicast)) rulings.Silent ≢ rulings.Silent
 others_answer None e = absurd cc

@@ -4,6 +4,8 @@ pub mod Ethernet
 pub mod Ip4
 pub mod Ip6
 pub mod Policy
+pub mod Ranges
 pub mod Records
+pub mod Rulings
 pub mod States
 pub mod Whole

@@ -8,7 +8,7 @@ ghost use Rattle.policy_state.specs.declared.basis.Basis.{Basis};
 ghost use Rattle.policy_state.specs.declared.ruling.Ruling.TheVariants.{Silent};
 ghost use Rattle.policy_state.specs.Asking.{first_of};
 ghost use Rattle.policy_state.specs.Ethernet.{ethertype};
-ghost use Rattle.policy_state.specs.Policy.{ip4, questions};
+ghost use Rattle.policy_state.specs.Policy.{arp, ip4, questions};
 ghost use Rattle.policy_state.specs.Whole.{Short, Says, policy};
 
 /// The questions end with one that always answers. So a frame of more than 14 bytes has a counter unless it lacks a field.
@@ -21,6 +21,13 @@ pub fn questions_are_answered()
 pub fn counters_tell_verdicts()
     ensures pass { (basis : Basis) (age : ℕ) (frame : List ℕ) (c : Counter) → policy basis age frame ≡ Says Pass c → (2 ≤ number_of c) × (number_of c ≤ 12) }
     ensures drop { (basis : Basis) (age : ℕ) (frame : List ℕ) (c : Counter) → policy basis age frame ≡ Says Drop c → (13 ≤ number_of c) × (number_of c ≤ 27) }
+{}
+
+/// The question on ARP is silent exactly on frames with another ethertype, of those that have one.
+pub fn arp_answers_its_frames()
+    ensures answers { (basis : Basis) (frame : List ℕ) → ethertype frame ≡ Some 0x806 → arp basis frame ≢ Silent }
+    ensures silent { (basis : Basis) (frame : List ℕ) (e : ℕ) →
+        ethertype frame ≡ Some e → e ≢ 0x806 → arp basis frame ≡ Silent }
 {}
 
 /// The question on IPv4 is silent exactly on frames with another ethertype, of those that have one.

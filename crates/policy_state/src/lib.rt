@@ -24,7 +24,9 @@ mod update;
 pub use basis::{Answer, Basis, Chosen, Script, Timed, UpdateReply};
 pub use config::Config;
 pub use deciding::decide;
-pub use laws::{counters_tell_verdicts, ip4_answers_its_frames, questions_are_answered};
+pub use laws::{
+    arp_answers_its_frames, counters_tell_verdicts, ip4_answers_its_frames, questions_are_answered,
+};
 pub use sharing::types_are_shared;
 pub use state::{Address, FilterState, Keepalive};
 pub use update::{Changed, StateError, Update};

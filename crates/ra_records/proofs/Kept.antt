@@ -8,10 +8,10 @@ use Rattle.frame_views.specs.Fields.{value_of, field}
 use Rattle.ra_records.specs.declared.span.Span.{Span}
 use Rattle.ra_records.specs.declared.span.RaError.{RaError}
 use Rattle.ra_records.specs.declared.span.RaError.TheVariants.{NotRa, Short, TooLong, CutOption, ZeroOption, ShortOption}
-use Rattle.ra_records.specs.Masks.{span, is_masked, same_outside, between, is_equal, IsRising}
+use Rattle.ra_records.specs.Masks.{span, lies_in, is_masked, same_outside, between, is_equal, IsRising}
 use Rattle.ra_records.specs.Options.{lifetimes_of, size_of, option_refusal, with_front, unless_refused, options_from}
 use Rattle.ra_records.specs.Advert.{router, holds, candidate, lifetimes_in, masks, is_same, IsSound}
-use Rattle.ra_records.proofs.Sections.{covers, before, above, same-sections}
+use Rattle.ra_records.proofs.Sections.{before, above, same-sections}
 use Rattle.ra_records.proofs.Rising.{masks_rise}
 use Rattle.ra_records.proofs.Walk.{whole, rise_more, good, sound}
 
@@ -58,7 +58,7 @@ earlier : (t u : Bool) (at size i : ℕ) (more : List Span) → 8 ≤ size → (
     → is_masked i ((cond t (span (at + 4) 4 ∷ span (at + 8) 4 ∷ []) (cond u (span (at + 4) 4 ∷ []) [])) ++ more) ≡ is_masked i more
 earlier true u at size i more some long le =
     let l : 16 ≤ size = long refl in
-    ap (λ (b : Bool). b || (covers i (span (at + 8) 4) || is_masked i more)) (above (span (at + 4) 4) i (omega arith))
+    ap (λ (b : Bool). b || (lies_in i (span (at + 8) 4) || is_masked i more)) (above (span (at + 4) 4) i (omega arith))
     ∙ ap (λ (b : Bool). b || is_masked i more) (above (span (at + 8) 4) i (omega arith))
 earlier false true at size i more some long le = ap (λ (b : Bool). b || is_masked i more) (above (span (at + 4) 4) i (omega arith))
 earlier false false at size i more some long le = refl
@@ -172,8 +172,8 @@ kept_cases true false false (Ok ls) other found more h =
 
 behind_masks : (i : ℕ) (more : List Span) → 70 ≤ i → is_masked i (masks (router ∷ more)) ≡ is_masked i more
 behind_masks i more le =
-    ap (λ (b : Bool). b || (covers i (span 56 2) || (covers i router || is_masked i more))) (above (span 15 3) i (omega arith))
-    ∙ ap (λ (b : Bool). b || (covers i router || is_masked i more)) (above (span 56 2) i (omega arith))
+    ap (λ (b : Bool). b || (lies_in i (span 56 2) || (lies_in i router || is_masked i more))) (above (span 15 3) i (omega arith))
+    ∙ ap (λ (b : Bool). b || (lies_in i router || is_masked i more)) (above (span 56 2) i (omega arith))
     ∙ ap (λ (b : Bool). b || is_masked i more) (above router i (omega arith))
 
 pub lifetimes_kept : (bytes frame : List ℕ) (lifetimes : List Span) → lifetimes_in bytes ≡ Ok lifetimes → is_same bytes lifetimes frame ≡ true → lifetimes_in frame ≡ Ok lifetimes

@@ -5,4 +5,6 @@ pub mod PlaceByPlace
 pub mod Refusing
 pub mod Rising
 pub mod Sections
+pub mod Tiles
+pub mod Unmasked
 pub mod Walk

@@ -64,6 +64,17 @@ pub seen_err : (frame : List ℕ) (now : ℕ) (e : RaError) → (err_of e ≢ Er
 unfolding advert
 seen_err frame now e h k = ap (seen_at frame now) (h (λ same. k (let x : e ≡ OutOfMemory = cc in ap (λ (e : RaError). Err e) x)))
 
+read_cases : (frame : List ℕ) (now : ℕ) (r : Advert) (read : Result (List Span) RaError) → seen_at frame now read ≡ Ok r
+    → (lifetimes : List Span) × (read ≡ Ok lifetimes) × (record { bytes = frame; lifetimes = lifetimes; seen = now } ≡ r)
+read_cases frame now r (Ok lifetimes) e = (lifetimes, refl, cc)
+read_cases frame now r (Err refusal) e = absurd cc
+
+-- an accepted frame has lifetimes, and its record is made of them
+pub read_from : (frame : List ℕ) (now : ℕ) (r : Advert) → advert frame now ≡ Ok r
+    → (lifetimes : List Span) × (lifetimes_in frame ≡ Ok lifetimes) × (record { bytes = frame; lifetimes = lifetimes; seen = now } ≡ r)
+unfolding advert
+read_from frame now r e = read_cases frame now r (lifetimes_in frame) e
+
 pub held : (frame bytes : List ℕ) (lifetimes ss : List Span) (least : ℕ) → lifetimes_in frame ≡ Ok lifetimes → bytes ≡ frame → ss ≡ sections_of frame lifetimes → least ≡ least_in frame lifetimes → IsHeld bytes lifetimes ss least
 held frame bytes lifetimes ss least e f g h = rw f (record { read = e; sound = sound frame lifetimes e; sections = g; least = h })
 

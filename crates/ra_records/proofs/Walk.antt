@@ -139,7 +139,7 @@ good zero at (byte ∷ bytes) found le h =
     (good (8 * slice_index bytes 0 - 1) (at + 1) bytes more (omega (arith, is.some, is.fits)) read)))
     h)
 
-front_ok : (front found : List Span) (read : Ranges) → with_front front read ≡ Ok found → (more : List Span) × (read ≡ Ok more) × (front ++ more ≡ found)
+pub front_ok : (front found : List Span) (read : Ranges) → with_front front read ≡ Ok found → (more : List Span) × (read ≡ Ok more) × (front ++ more ≡ found)
 front_ok front found (Ok more) h = (more, refl, cc)
 front_ok front found (Err e) h = absurd cc
 

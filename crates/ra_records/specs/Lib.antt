@@ -1,3 +1,4 @@
 pub mod Advert
 pub mod Masks
 pub mod Options
+pub mod Tiling

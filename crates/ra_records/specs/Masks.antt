@@ -7,9 +7,13 @@ use Rattle.ra_records.specs.declared.span.Span.{Span}
 abbrev pub span : ℕ → ℕ → Span
 span at len = record { at = at; len = len }
 
+-- whether a place lies in a range
+abbrev pub lies_in : ℕ → Span → Bool
+lies_in at s = nat_le s.at at && nat_lt at (s.at + s.len)
+
 -- whether a place lies in one of the ranges
 abbrev pub is_masked : ℕ → List Span → Bool
-is_masked at masks = list_any (λ m. nat_le m.at at && nat_lt at (m.at + m.len)) masks
+is_masked at masks = list_any (lies_in at) masks
 
 -- whether bytes are equal at every place that lies in no range; the first of them stand at this place
 abbrev pub same_outside : List Span → ℕ → List ℕ → List ℕ → Bool

@@ -14,7 +14,10 @@ mod span;
 #[cfg(test)]
 mod tests;
 
-pub use laws::{least_is_a_bound, refusals_have_causes, same_is_place_by_place};
+pub use laws::{
+    least_is_a_lifetime, options_tile_the_frame, refusals_have_causes, same_is_place_by_place,
+    sections_are_unmasked,
+};
 pub use reading::candidate;
 pub use record::Record;
 pub use replies::{Held, RaReply};

@@ -21,7 +21,8 @@ use Rattle.std.proofs.lemmas.Nat.{be_bytes_4, from_be_bytes-to_be_bytes_4}
 use Rattle.policy_state.specs.declared.state.Address.{Address}
 use Rattle.plain_text.proofs.Numerals.{own}
 use Rattle.script_text.specs.declared.words.Endpoint.{Endpoint}
-use Rattle.script_text.specs.Words.{ip_word, address_word, endpoint_word, SpellsIp, SpellsAddress, SpellsEndpoint}
+use Rattle.script_text.specs.Words.{ip_word, address_word, endpoint_word}
+use Rattle.script_text.specs.Spelling.{SpellsIp, SpellsAddress, SpellsEndpoint}
 use Rattle.plain_text.specs.Numbers.{number_of}
 use Rattle.script_text.specs.WordReading.{cut_of, ip_of, address_of, endpoint_of}
 use Rattle.script_text.proofs.Exactness.{Exact, bind_some, if_some, some_inj}
@@ -171,14 +172,14 @@ address_found word a e =
     let same = some_inj (record { ip = q.0; prefix = n.0 }) a n.2 in
     subst (SpellsAddress word) same (record {
       ip = ip.fits;
-      prefix = bits.most;
-      spelled = joined 47 word p.0.0 p.0.1 (ip_word q.0) (decimal n.0) (cut_found 47 word p.0.0 p.0.1 p.1) ip.spelled bits.spelled;
+      prefix = bits.0;
+      spelled = joined 47 word p.0.0 p.0.1 (ip_word q.0) (decimal n.0) (cut_found 47 word p.0.0 p.0.1 p.1) ip.spelled bits.1;
     })
 
 address_of-word : (a : Address) → a.ip < 2 ^ 32 → a.prefix ≤ 255 → address_of (address_word a) ≡ Some a
 unfolding address_of
 address_of-word a ip bits =
-    rw (append_assoc (ip_word a.ip) (47 ∷ []) (decimal a.prefix), cut_of-parts 47 (ip_word a.ip) (decimal a.prefix) (ip_word_lacks_slash a.ip), ip_of-word a.ip ip, (number_exact 255 (decimal a.prefix) (omega arith)).only a.prefix (record { most = bits; spelled = refl })) refl
+    rw (append_assoc (ip_word a.ip) (47 ∷ []) (decimal a.prefix), cut_of-parts 47 (ip_word a.ip) (decimal a.prefix) (ip_word_lacks_slash a.ip), ip_of-word a.ip ip, (number_exact 255 (decimal a.prefix) (omega arith)).only a.prefix ((bits, refl))) refl
 
 pub address_exact : (word : List ℕ) → Exact (address_of word) (SpellsAddress word)
 address_exact word = record {
@@ -197,14 +198,14 @@ endpoint_found word a e =
     let same = some_inj (record { ip = q.0; port = n.0 }) a n.2 in
     subst (SpellsEndpoint word) same (record {
       ip = ip.fits;
-      port = let most = port.most in omega arith;
-      spelled = joined 58 word p.0.0 p.0.1 (ip_word q.0) (decimal n.0) (cut_found 58 word p.0.0 p.0.1 p.1) ip.spelled port.spelled;
+      port = let most = port.0 in omega arith;
+      spelled = joined 58 word p.0.0 p.0.1 (ip_word q.0) (decimal n.0) (cut_found 58 word p.0.0 p.0.1 p.1) ip.spelled port.1;
     })
 
 endpoint_of-word : (a : Endpoint) → a.ip < 2 ^ 32 → a.port < 2 ^ 16 → endpoint_of (endpoint_word a) ≡ Some a
 unfolding endpoint_of
 endpoint_of-word a ip port =
-    rw (append_assoc (ip_word a.ip) (58 ∷ []) (decimal a.port), cut_of-parts 58 (ip_word a.ip) (decimal a.port) (ip_word_lacks_colon a.ip), ip_of-word a.ip ip, (number_exact 65535 (decimal a.port) (omega arith)).only a.port (record { most = omega arith; spelled = refl })) refl
+    rw (append_assoc (ip_word a.ip) (58 ∷ []) (decimal a.port), cut_of-parts 58 (ip_word a.ip) (decimal a.port) (ip_word_lacks_colon a.ip), ip_of-word a.ip ip, (number_exact 65535 (decimal a.port) (omega arith)).only a.port ((omega arith, refl))) refl
 
 pub endpoint_exact : (word : List ℕ) → Exact (endpoint_of word) (SpellsEndpoint word)
 endpoint_exact word = record {

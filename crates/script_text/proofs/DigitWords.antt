@@ -1,31 +1,20 @@
 -- Words of lower-case digits are the texts of their bytes.
-use Rattle.std.proofs.Common.{◌≡◌, ℕ, zero, suc, ◌+◌, ◌*◌, ◌/◌, ◌%◌, ◌^◌, ◌<◌, Bool, true, false, ◌&&◌, cond, eqb, ltb, List, [], ◌∷◌, ◌++◌, length, slice_index, Option, Some, None, refl, sym, ap, subst, ◌∙◌, arith}
+use Rattle.std.proofs.Common.{◌≡◌, ℕ, zero, suc, ◌+◌, ◌*◌, ◌/◌, ◌%◌, ◌^◌, ◌<◌, Bool, true, false, cond, eqb, List, [], ◌∷◌, ◌++◌, length, slice_index, Option, Some, None, refl, sym, ap, subst, ◌∙◌, arith}
 use Rattle.std.specs.Int.{w16, to_be_bytes, from_be_bytes}
-use Rattle.std.proofs.lemmas.Bool.{agree_below_at, and_parts, eqb-true, ltb-true, eq-eqb}
+use Rattle.std.proofs.lemmas.Bool.{agree_below_at, eqb-true, eq-eqb}
 use Rattle.std.proofs.lemmas.Bool.Decides.{nat_tests}
 use Rattle.std.proofs.lemmas.Nat.{be_bytes_2, from_be_bytes-to_be_bytes_2}
+use Rattle.plain_text.proofs.Digits.{told_of, told_at}
 use Rattle.hex.specs.Hex.{encode_with, encode_lower, lower_digits, IsBytes}
-use Rattle.script_text.specs.Words.{mac_word, ethertype_word, SpellsMac, SpellsEthertype}
+use Rattle.script_text.specs.Words.{mac_word, ethertype_word}
+use Rattle.script_text.specs.Spelling.{SpellsMac, SpellsEthertype}
 use Rattle.script_text.specs.WordReading.{digit_of, byte_of, pairs_of, mac_of, ethertype_of}
 use Rattle.script_text.proofs.Exactness.{Exact, bind_some, if_some}
 
 -- ---- a digit
 
--- the table has the code at its value
-told_of : ℕ → Option ℕ → Bool
-told_of c None = true
-told_of c (Some v) = eqb (slice_index lower_digits v) c && ltb v 16
-
 abbrev told : ℕ → Bool
 told c = told_of c (digit_of c)
-
-told_at : (c v : ℕ) (o : Option ℕ) → o ≡ Some v → told_of c o ≡ true → (slice_index lower_digits v ≡ c) × (v < 16)
-unfolding told_of
-told_at c v None e t = absurd cc
-told_at c v (Some w) e t =
-    let same : w ≡ v = cc in
-    let parts = and_parts (eqb (slice_index lower_digits w) c) (ltb w 16) t in
-    subst (λ (x : ℕ). (slice_index lower_digits x ≡ c) × (x < 16)) same (eqb-true _ _ parts.0, ltb-true _ _ parts.1)
 
 small : (c v : ℕ) → digit_of c ≡ Some v → c < 103
 unfolding digit_of

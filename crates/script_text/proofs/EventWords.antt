@@ -20,11 +20,13 @@ use Rattle.script_text.specs.declared.words.Endpoint.{Endpoint}
 use Rattle.script_text.specs.Words.{ip_word, address_word, endpoint_word}
 use Rattle.plain_text.specs.Numbers.{number_of}
 use Rattle.script_text.specs.WordReading.{cut_of, address_of, endpoint_of}
-use Rattle.script_text.specs.ScriptLines.{switch_word, keepalive_words, update_text, event_line, local_end, remote_end, IsWord, IsKeepalive, IsUpdate, IsEvent}
+use Rattle.policy_state.specs.Ranges.{IsKeepalive}
+use Rattle.script_text.specs.ScriptLines.{switch_word, keepalive_words, update_text, event_line, local_end, remote_end, IsWord, IsScriptUpdate, IsEvent}
 use Rattle.script_text.specs.ScriptReading.{behind, switch_of, added_read, address_read, tried, update_of, event_of}
 use Rattle.script_text.proofs.Exactness.{Exact, bind_some, some_inj}
 use Rattle.script_text.proofs.AddressWords.{lacks, digits_lack, ip_word_passes, cut_found, cut_of-parts, address_exact, endpoint_exact}
-use Rattle.script_text.proofs.LineWords.{is_text, text_is_other, behind_found, behind-front, word_exact, switch_exact, switch_of-word}
+use Rattle.plain_text.proofs.Words.{equal_words}
+use Rattle.script_text.proofs.LineWords.{text_is_other, behind_found, behind-front, word_exact, switch_exact, switch_of-word}
 
 -- ---- words without blanks
 
@@ -57,7 +59,7 @@ five_words : (text a b c d e u v w x y : List ℕ) (r s t : List ℕ) → text �
     → a ≡ u → b ≡ v → c ≡ w → d ≡ x → e ≡ y → text ≡ join_with_byte 32 (u ∷ v ∷ w ∷ x ∷ y ∷ [])
 five_words text a b c d e u v w x y r s t p q m n i j k l o = p ∙ rw (q, m, n, i, j, k, l, o) refl
 
-added_found : (text : List ℕ) (update : Update) → added_read text ≡ Some update → IsUpdate update × (codes "keepalive add " ++ text ≡ update_text update)
+added_found : (text : List ℕ) (update : Update) → added_read text ≡ Some update → IsScriptUpdate update × (codes "keepalive add " ++ text ≡ update_text update)
 unfolding added_read
 added_found text update h =
     let a = bind_some (cut_of 32 text) _ update h in
@@ -79,7 +81,7 @@ added_found text update h =
     five_words text a.0.0 b.0.0 c.0.0 d.0.0 d.0.1 (decimal slot.0) (endpoint_word local.0) (endpoint_word remote.0) (decimal sequence.0) (decimal acknowledgement.0) a.0.1 b.0.1 c.0.1
     (cut_found 32 text a.0.0 a.0.1 a.1) (cut_found 32 a.0.1 b.0.0 b.0.1 b.1) (cut_found 32 b.0.1 c.0.0 c.0.1 c.1) (cut_found 32 c.0.1 d.0.0 d.0.1 d.1)
     s.1 l.spelled r.spelled q.1 k.1 in
-    subst (λ (u : Update). IsUpdate u × (codes "keepalive add " ++ text ≡ update_text u)) same (
+    subst (λ (u : Update). IsScriptUpdate u × (codes "keepalive add " ++ text ≡ update_text u)) same (
       (s.0, record { local = l.ip; local_port = l.port; remote = r.ip; remote_port = r.port; sequence = q.0; acknowledgement = k.0 }),
       ap (λ (t : List ℕ). codes "keepalive add " ++ t) spelled,
     )
@@ -112,17 +114,17 @@ added_again slot sent small k =
 -- ---- an address
 
 address_cases : (word : List ℕ) (update : Update) (yes : Bool) → bytes_eq word (codes "none") ≡ yes
-    → cond yes (Some (updates.Address None)) (address_of word >>= λ a. Some (updates.Address (Some a))) ≡ Some update → IsUpdate update × (codes "address " ++ word ≡ update_text update)
+    → cond yes (Some (updates.Address None)) (address_of word >>= λ a. Some (updates.Address (Some a))) ≡ Some update → IsScriptUpdate update × (codes "address " ++ word ≡ update_text update)
 address_cases word update true p e =
-    subst (λ (u : Update). IsUpdate u × (codes "address " ++ word ≡ update_text u)) (some_inj (updates.Address None) update e)
-    (tt, ap (λ (t : List ℕ). codes "address " ++ t) (is_text word (codes "none") p))
+    subst (λ (u : Update). IsScriptUpdate u × (codes "address " ++ word ≡ update_text u)) (some_inj (updates.Address None) update e)
+    (tt, ap (λ (t : List ℕ). codes "address " ++ t) (equal_words word (codes "none") p))
 address_cases word update false p e =
     let a = bind_some (address_of word) _ update e in
     let s = (address_exact word).found a.0 a.1 in
-    subst (λ (u : Update). IsUpdate u × (codes "address " ++ word ≡ update_text u)) (some_inj (updates.Address (Some a.0)) update a.2)
+    subst (λ (u : Update). IsScriptUpdate u × (codes "address " ++ word ≡ update_text u)) (some_inj (updates.Address (Some a.0)) update a.2)
     ((s.ip, s.prefix), ap (λ (t : List ℕ). codes "address " ++ t) s.spelled)
 
-address_found : (word : List ℕ) (update : Update) → address_read word ≡ Some update → IsUpdate update × (codes "address " ++ word ≡ update_text update)
+address_found : (word : List ℕ) (update : Update) → address_read word ≡ Some update → IsScriptUpdate update × (codes "address " ++ word ≡ update_text update)
 unfolding address_read
 address_found word update e = address_cases word update (bytes_eq word (codes "none")) refl e
 
@@ -145,29 +147,29 @@ tried_some (Some word) read other update e = inl (word, refl, e)
 tried_some None read other update e = inr e
 
 abbrev Updates : List ℕ → Update → Type 0
-Updates text update = IsUpdate update × (text ≡ update_text update)
+Updates text update = IsScriptUpdate update × (text ≡ update_text update)
 
 -- an update that is read behind a prefix
-behind_updates : (front text word : List ℕ) (update : Update) → behind front text ≡ Some word → IsUpdate update × (front ++ word ≡ update_text update) → Updates text update
+behind_updates : (front text word : List ℕ) (update : Update) → behind front text ≡ Some word → IsScriptUpdate update × (front ++ word ≡ update_text update) → Updates text update
 behind_updates front text word update b s = (s.0, behind_found front text word b ∙ s.1)
 
-multicast_found : (word : List ℕ) (update : Update) → (switch_of word >>= λ on. Some (updates.Multicast on)) ≡ Some update → IsUpdate update × (codes "multicast " ++ word ≡ update_text update)
+multicast_found : (word : List ℕ) (update : Update) → (switch_of word >>= λ on. Some (updates.Multicast on)) ≡ Some update → IsScriptUpdate update × (codes "multicast " ++ word ≡ update_text update)
 multicast_found word update e =
     let p = bind_some (switch_of word) _ update e in
-    subst (λ (u : Update). IsUpdate u × (codes "multicast " ++ word ≡ update_text u)) (some_inj (updates.Multicast p.0) update p.2)
+    subst (λ (u : Update). IsScriptUpdate u × (codes "multicast " ++ word ≡ update_text u)) (some_inj (updates.Multicast p.0) update p.2)
     (tt, ap (λ (t : List ℕ). codes "multicast " ++ t) ((switch_exact word).found p.0 p.1))
 
-doze_found : (word : List ℕ) (update : Update) → (switch_of word >>= λ on. Some (updates.Doze on)) ≡ Some update → IsUpdate update × (codes "doze " ++ word ≡ update_text update)
+doze_found : (word : List ℕ) (update : Update) → (switch_of word >>= λ on. Some (updates.Doze on)) ≡ Some update → IsScriptUpdate update × (codes "doze " ++ word ≡ update_text update)
 doze_found word update e =
     let p = bind_some (switch_of word) _ update e in
-    subst (λ (u : Update). IsUpdate u × (codes "doze " ++ word ≡ update_text u)) (some_inj (updates.Doze p.0) update p.2)
+    subst (λ (u : Update). IsScriptUpdate u × (codes "doze " ++ word ≡ update_text u)) (some_inj (updates.Doze p.0) update p.2)
     (tt, ap (λ (t : List ℕ). codes "doze " ++ t) ((switch_exact word).found p.0 p.1))
 
-remove_found : (word : List ℕ) (update : Update) → (number_of 4294967295 word >>= λ slot. Some (updates.KeepaliveRemove slot)) ≡ Some update → IsUpdate update × (codes "keepalive remove " ++ word ≡ update_text update)
+remove_found : (word : List ℕ) (update : Update) → (number_of 4294967295 word >>= λ slot. Some (updates.KeepaliveRemove slot)) ≡ Some update → IsScriptUpdate update × (codes "keepalive remove " ++ word ≡ update_text update)
 remove_found word update e =
     let p = bind_some (number_of 4294967295 word) _ update e in
     let s = (word_exact word).found p.0 p.1 in
-    subst (λ (u : Update). IsUpdate u × (codes "keepalive remove " ++ word ≡ update_text u)) (some_inj (updates.KeepaliveRemove p.0) update p.2)
+    subst (λ (u : Update). IsScriptUpdate u × (codes "keepalive remove " ++ word ≡ update_text u)) (some_inj (updates.KeepaliveRemove p.0) update p.2)
     (s.0, ap (λ (t : List ℕ). codes "keepalive remove " ++ t) s.1)
 
 update_found : (text : List ℕ) (update : Update) → update_of text ≡ Some update → Updates text update
@@ -211,7 +213,7 @@ no_add : (rest : List ℕ) → behind (codes "keepalive add ") (codes "keepalive
 unfolding behind
 no_add rest = refl
 
-update_again : (u : Update) → IsUpdate u → update_of (update_text u) ≡ Some u
+update_again : (u : Update) → IsScriptUpdate u → update_of (update_text u) ≡ Some u
 unfolding update_of
 update_again (updates.Multicast on) s = rw (behind-front (codes "multicast ") (switch_word on), switch_of-word on) refl
 update_again (updates.Doze on) s = rw (no_multicast 100 _ refl, behind-front (codes "doze ") (switch_word on), switch_of-word on) refl
@@ -220,7 +222,7 @@ update_again (updates.Address (Some a)) s = rw (no_multicast 97 _ refl, no_doze 
 update_again (updates.KeepaliveAdd slot sent) s = rw (no_multicast 107 _ refl, no_doze 107 _ refl, no_address 107 _ refl, behind-front (codes "keepalive add ") (join_with_byte 32 (keepalive_words slot sent))) (added_again slot sent s.0 s.1)
 update_again (updates.KeepaliveRemove slot) s = rw (no_multicast 107 _ refl, no_doze 107 _ refl, no_address 107 _ refl, no_add (decimal slot), behind-front (codes "keepalive remove ") (decimal slot), word_read slot s) refl
 
-pub update_exact : (text : List ℕ) → Exact (update_of text) (λ u. IsUpdate u × (text ≡ update_text u))
+pub update_exact : (text : List ℕ) → Exact (update_of text) (λ u. IsScriptUpdate u × (text ≡ update_text u))
 update_exact text = record {
   found = λ u e. update_found text u e;
   only = λ u s. ap update_of s.1 ∙ update_again u s.0;

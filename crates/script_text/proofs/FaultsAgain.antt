@@ -11,7 +11,8 @@ use Rattle.script_text.specs.declared.script_error.ScriptKind.{ScriptKind}
 use Rattle.script_text.specs.declared.script_error.ScriptKind.TheVariants.{Form, Order, End}
 use Rattle.plain_text.specs.Lines.{lines_of}
 use Rattle.script_text.specs.ScriptLines.{Contents, version_line, mac_line, capacity_line, start_line, drop_line, deny_line, event_line, lines_saying, IsEvent, kept_lines}
-use Rattle.script_text.specs.Scripts.{IsSound, IsOfForm, Refuses}
+use Rattle.script_text.specs.Scripts.{IsSound}
+use Rattle.script_text.specs.ScriptFaults.{IsOfForm, Refuses}
 use Rattle.script_text.specs.ScriptReading.{◌>>>◌, first, first_six, event_answer, with_front, events_from, contents_from, script_answer, version_read, mac_read, capacity_read, start_read, drop_read, deny_read}
 use Rattle.script_text.proofs.Exactness.{exact-refused}
 use Rattle.script_text.proofs.LineWords.{version_exact, mac_line_exact, capacity_line_exact, start_line_exact, drop_line_exact, deny_line_exact}

@@ -8,8 +8,10 @@ use Rattle.script_text.specs.declared.script_error.ScriptError.TheVariants.{Bad,
 use Rattle.script_text.specs.declared.script_error.ScriptKind.{ScriptKind}
 use Rattle.script_text.specs.declared.script_error.ScriptKind.TheVariants.{Form, End}
 use Rattle.plain_text.specs.Lines.{lines_of}
-use Rattle.script_text.specs.ScriptLines.{Contents, version_line, mac_line, capacity_line, start_line, drop_line, deny_line, event_line, first_lines, lines_saying, IsMac, IsCapacity, IsDeny, IsWord, IsEvent, kept_lines}
-use Rattle.script_text.specs.Scripts.{IsSound, IsOfForm, BeginsScript, Refuses}
+use Rattle.policy_state.specs.Ranges.{IsMac}
+use Rattle.script_text.specs.ScriptLines.{Contents, version_line, mac_line, capacity_line, start_line, drop_line, deny_line, event_line, first_lines, lines_saying, IsCapacity, IsDeny, IsWord, IsEvent, kept_lines}
+use Rattle.script_text.specs.Scripts.{IsSound}
+use Rattle.script_text.specs.ScriptFaults.{IsOfForm, BeginsScript, Refuses}
 use Rattle.script_text.specs.ScriptReading.{first, first_six, events_from, contents_from, script_answer, version_read, mac_read, capacity_read, start_read, drop_read, deny_read}
 use Rattle.script_text.proofs.Exactness.{exact-none_spelled}
 use Rattle.script_text.proofs.DigitWords.{bytes-cons}
@@ -24,7 +26,7 @@ zeros = 0 ∷ 0 ∷ 0 ∷ 0 ∷ 0 ∷ 0 ∷ []
 
 zeros_mac : IsMac zeros
 unfolding zeros
-zeros_mac = record { six = refl; fit = bytes-cons 0 (0 ∷ 0 ∷ 0 ∷ 0 ∷ 0 ∷ []) (omega arith) (bytes-cons 0 (0 ∷ 0 ∷ 0 ∷ 0 ∷ []) (omega arith) (bytes-cons 0 (0 ∷ 0 ∷ 0 ∷ []) (omega arith) (bytes-cons 0 (0 ∷ 0 ∷ []) (omega arith) (bytes-cons 0 (0 ∷ []) (omega arith) (bytes-cons 0 [] (omega arith) (λ k. omega arith)))))) }
+zeros_mac = record { six = refl; bytes = bytes-cons 0 (0 ∷ 0 ∷ 0 ∷ 0 ∷ 0 ∷ []) (omega arith) (bytes-cons 0 (0 ∷ 0 ∷ 0 ∷ 0 ∷ []) (omega arith) (bytes-cons 0 (0 ∷ 0 ∷ 0 ∷ []) (omega arith) (bytes-cons 0 (0 ∷ 0 ∷ []) (omega arith) (bytes-cons 0 (0 ∷ []) (omega arith) (bytes-cons 0 [] (omega arith) (λ k. omega arith)))))) }
 
 least_capacity : IsCapacity 128
 least_capacity = record { least = omega arith; most = omega arith }

@@ -9,8 +9,10 @@ use Rattle.policy_state.specs.declared.basis.Timed.{Timed}
 use Rattle.script_text.specs.declared.script_error.ScriptError.{ScriptError}
 use Rattle.script_text.specs.declared.script_error.ScriptError.TheVariants.{Bad}
 use Rattle.script_text.specs.declared.script_error.ScriptKind.TheVariants.{Form, Order, End}
-use Rattle.script_text.specs.ScriptLines.{Contents, version_line, mac_line, capacity_line, start_line, drop_line, deny_line, event_line, first_lines, IsMac, IsCapacity, IsDeny, IsWord, IsEvent}
-use Rattle.script_text.specs.Scripts.{IsInOrder, IsSound, IsLate}
+use Rattle.policy_state.specs.Ranges.{IsMac}
+use Rattle.script_text.specs.ScriptLines.{Contents, version_line, mac_line, capacity_line, start_line, drop_line, deny_line, event_line, first_lines, IsCapacity, IsDeny, IsWord, IsEvent}
+use Rattle.script_text.specs.Scripts.{IsInOrder, IsSound}
+use Rattle.script_text.specs.ScriptFaults.{IsLate}
 use Rattle.script_text.specs.ScriptReading.{◌>>>◌, or_form, first, first_six, in_time, event_of, event_answer, with_front, events_from, version_read, mac_read, capacity_read, start_read, drop_read, deny_read}
 use Rattle.script_text.proofs.Exactness.{exact-none_spelled, exact-refused}
 use Rattle.script_text.proofs.LineWords.{version_exact, mac_line_exact, capacity_line_exact, start_line_exact, drop_line_exact, deny_line_exact}

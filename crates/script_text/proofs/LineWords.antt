@@ -10,10 +10,14 @@ use Rattle.std.proofs.lemmas.List.Elements.{All-from_recursion, recursion_from_A
 use Rattle.std.proofs.lemmas.Slice.Eq.{bytes_eq-Decides}
 use Rattle.hex.specs.Hex.{encode_with}
 use Rattle.apf_coding.specs.Reading.{◌>>=◌}
-use Rattle.script_text.specs.Words.{mac_word, ethertype_word, SpellsNumber, SpellsMac, SpellsEthertype}
+use Rattle.script_text.specs.Words.{mac_word, ethertype_word}
+use Rattle.plain_text.proofs.Words.{equal_words}
+use Rattle.plain_text.specs.Numbers.{Writes}
+use Rattle.script_text.specs.Spelling.{SpellsMac, SpellsEthertype}
 use Rattle.plain_text.specs.Numbers.{number_of}
 use Rattle.script_text.specs.WordReading.{mac_of, ethertype_of, byte_of, digit_of}
-use Rattle.script_text.specs.ScriptLines.{switch_word, deny_word, version_line, mac_line, capacity_line, start_line, drop_line, deny_line, IsMac, IsCapacity, IsDeny, IsWord}
+use Rattle.policy_state.specs.Ranges.{IsMac}
+use Rattle.script_text.specs.ScriptLines.{switch_word, deny_word, version_line, mac_line, capacity_line, start_line, drop_line, deny_line, IsCapacity, IsDeny, IsWord}
 use Rattle.script_text.specs.ScriptReading.{behind, switch_of, ethertypes_of, few_of, deny_of, at_least, version_read, mac_read, capacity_read, start_read, drop_read, deny_read}
 use Rattle.script_text.proofs.Exactness.{Exact, exact-same, bind_some, if_some, some_inj}
 use Rattle.script_text.proofs.NumberWords.{number_exact}
@@ -22,14 +26,11 @@ use Rattle.script_text.proofs.DenyLists.{ethertypes_some}
 
 -- ---- texts that are compared
 
-pub is_text : (a b : List ℕ) → bytes_eq a b ≡ true → a ≡ b
-is_text a b e = (bytes_eq-Decides a b).0 e
-
 pub text_is : (a : List ℕ) → bytes_eq a a ≡ true
 text_is a = (bytes_eq-Decides a a).1 refl
 
 other_cases : (a b : List ℕ) (yes : Bool) → bytes_eq a b ≡ yes → (a ≡ b → ⊥) → yes ≡ false
-other_cases a b true e other = absurd (other (is_text a b e))
+other_cases a b true e other = absurd (other (equal_words a b e))
 other_cases a b false e other = refl
 
 pub text_is_other : (a b : List ℕ) → (a ≡ b → ⊥) → bytes_eq a b ≡ false
@@ -41,7 +42,7 @@ pub behind_found : (front line rest : List ℕ) → behind front line ≡ Some r
 unfolding behind
 behind_found front line rest e =
     let g = if_some (bytes_eq (take (length front) line) front) (Some (drop (length front) line)) rest e in
-    let head = is_text (take (length front) line) front g.0 in
+    let head = equal_words (take (length front) line) front g.0 in
     let tail = some_inj (drop (length front) line) rest g.1 in
     sym (take-append-drop (length front) line) ∙ ap (λ (t : List ℕ). t ++ drop (length front) line) head ∙ ap (λ (t : List ℕ). front ++ t) tail
 
@@ -72,15 +73,15 @@ version_of-line = refl
 pub version_exact : (line : List ℕ) → Exact (version_read line) (λ (v : Unit {0}). line ≡ version_line)
 unfolding version_read
 version_exact line = record {
-  found = λ v e. is_text line version_line (if_some (bytes_eq line version_line) (Some tt) v e).0;
+  found = λ v e. equal_words line version_line (if_some (bytes_eq line version_line) (Some tt) v e).0;
   only = λ v s. ap version_read s ∙ version_of-line;
 }
 
 pub mac_line_exact : (line : List ℕ) → Exact (mac_read line) (λ mac. IsMac mac × (line ≡ mac_line mac))
 unfolding mac_read
 mac_line_exact line = behind_exact (codes "mac ") line mac_of IsMac mac_word (λ word. exact-same (SpellsMac word) _ (mac_of word) (mac_exact word)
-    (λ mac s. (record { six = s.six; fit = s.fit }, s.spelled))
-    (λ mac t. record { six = t.0.six; fit = t.0.fit; spelled = t.1 }))
+    (λ mac s. (record { six = s.six; bytes = s.fit }, s.spelled))
+    (λ mac t. record { six = t.0.six; fit = t.0.bytes; spelled = t.1 }))
 
 at_least_is : (limit n m : ℕ) → at_least limit n ≡ Some m → (limit ≤ m) × (n ≡ m)
 at_least_is limit n m e =
@@ -94,9 +95,9 @@ capacity_word_exact word = record {
       let p = bind_some (number_of 8192 word) (at_least 128) n e in
       let a = at_least_is 128 p.0 n p.2 in
       let s = (number_exact 8192 word (omega arith)).found n (p.1 ∙ ap Some a.1) in
-      (record { least = a.0; most = s.most }, s.spelled);
+      (record { least = a.0; most = s.0 }, s.1);
   only = λ n t.
-      let read = (number_exact 8192 word (omega arith)).only n (record { most = t.0.most; spelled = t.1 }) in
+      let read = (number_exact 8192 word (omega arith)).only n (t.0.most, t.1) in
       rw (read, le-leb 128 n t.0.least) refl;
 }
 
@@ -106,9 +107,9 @@ capacity_line_exact line = behind_exact (codes "capacity ") line (λ word. numbe
 
 -- a number of 32 bits
 pub word_exact : (word : List ℕ) → Exact (number_of 4294967295 word) (λ n. IsWord n × (word ≡ decimal n))
-word_exact word = exact-same (SpellsNumber 4294967295 word) _ (number_of 4294967295 word) (number_exact 4294967295 word (omega arith))
-    (λ n s. (let most = s.most in omega arith, s.spelled))
-    (λ n t. record { most = let small = t.0 in omega arith; spelled = t.1 })
+word_exact word = exact-same (Writes 4294967295 word) _ (number_of 4294967295 word) (number_exact 4294967295 word (omega arith))
+    (λ n s. (let most = s.0 in omega arith, s.1))
+    (λ n t. (let small = t.0 in omega arith, t.1))
 
 pub start_line_exact : (line : List ℕ) → Exact (start_read line) (λ n. IsWord n × (line ≡ start_line n))
 unfolding start_read
@@ -116,8 +117,8 @@ start_line_exact line = behind_exact (codes "start ") line (number_of 4294967295
 
 switch_cases : (word : List ℕ) (on : Bool) (yes other : Bool) → bytes_eq word (codes "on") ≡ yes → bytes_eq word (codes "off") ≡ other
     → cond yes (Some true) (cond other (Some false) None) ≡ Some on → word ≡ switch_word on
-switch_cases word on true other p q e = is_text word (codes "on") p ∙ ap switch_word (some_inj true on e)
-switch_cases word on false true p q e = is_text word (codes "off") q ∙ ap switch_word (some_inj false on e)
+switch_cases word on true other p q e = equal_words word (codes "on") p ∙ ap switch_word (some_inj true on e)
+switch_cases word on false true p q e = equal_words word (codes "off") q ∙ ap switch_word (some_inj false on e)
 switch_cases word on false false p q e = absurd cc
 
 pub switch_of-word : (on : Bool) → switch_of (switch_word on) ≡ Some on
@@ -212,7 +213,7 @@ no_deny : IsDeny []
 no_deny = record { few = omega arith; fit = λ k d lt. omega arith }
 
 deny_cases : (word deny : List ℕ) (yes : Bool) → bytes_eq word (codes "none") ≡ yes → cond yes (Some []) (few_of (ethertypes_of word)) ≡ Some deny → IsDeny deny × (word ≡ deny_word deny)
-deny_cases word deny true p e = subst (λ (d : List ℕ). IsDeny d × (word ≡ deny_word d)) (some_inj [] deny e) (no_deny, is_text word (codes "none") p)
+deny_cases word deny true p e = subst (λ (d : List ℕ). IsDeny d × (word ≡ deny_word d)) (some_inj [] deny e) (no_deny, equal_words word (codes "none") p)
 deny_cases word deny false p e =
     let f = few_is (ethertypes_of word) deny e in
     listed_deny word deny (ethertypes_some word deny f.0) f.1 (ethertypes_is word deny f.0)

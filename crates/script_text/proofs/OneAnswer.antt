@@ -9,7 +9,8 @@ use Rattle.script_text.specs.declared.script_error.ScriptError.{ScriptError}
 use Rattle.script_text.specs.declared.script_error.ScriptError.TheVariants.{Bad, OutOfMemory}
 use Rattle.script_text.specs.declared.script_error.ScriptKind.{ScriptKind}
 use Rattle.script_text.specs.ScriptLines.{Contents, contents_of}
-use Rattle.script_text.specs.Scripts.{Says, IsScriptText, Refuses}
+use Rattle.script_text.specs.Scripts.{Says, IsScriptText}
+use Rattle.script_text.specs.ScriptFaults.{Refuses}
 use Rattle.script_text.specs.ScriptReading.{script_answer, Tells}
 use Rattle.script_text.proofs.Grammar.{ok_inj, err_inj}
 use Rattle.script_text.proofs.Said.{says_found, says_again}

@@ -4,7 +4,7 @@ use Rattle.std.specs.Fmt.{decimal}
 use Rattle.std.specs.List.{join_with_byte, flat_map}
 use Rattle.std.specs.Option.{option_map_or}
 use Rattle.hex.specs.Hex.{encode_lower}
-use Rattle.apf_coding.specs.Names.{verdict_word}
+use Rattle.apf_coding.specs.Verdicts.{verdict_word}
 use Rattle.data_counters.specs.declared.counter.Counter.{Counter}
 use Rattle.data_counters.specs.Counters.{name_of, all_counters, counter_of}
 use Rattle.data_counters.specs.Memory.{value_of}

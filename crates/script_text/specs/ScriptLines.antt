@@ -1,8 +1,8 @@
 -- The lines of scripts, as the texts of what they say. This project's own format.
-use Rattle.std.specs.Prelude.{◌≡◌, ℕ, ◌^◌, ◌<◌, ◌≤◌, ◌||◌, ◌==◌, Bool, true, false, not, List, [], ◌∷◌, ◌++◌, length, map, filter, slice_index, codes, All, Some, None}
+use Rattle.std.specs.Prelude.{ℕ, ◌^◌, ◌<◌, ◌≤◌, ◌||◌, ◌==◌, Bool, true, false, not, List, [], ◌∷◌, ◌++◌, length, map, filter, slice_index, codes, All, Some, None}
 use Rattle.std.specs.Fmt.{decimal}
 use Rattle.std.specs.List.{join_with_byte, enumerate_from}
-use Rattle.hex.specs.Hex.{IsBytes}
+use Rattle.policy_state.specs.Ranges.{IsKeepalive}
 use Rattle.policy_state.specs.declared.state.Keepalive.{Keepalive}
 use Rattle.policy_state.specs.declared.update.Update.{Update}
 use Rattle.policy_state.specs.declared.update.Update.TheVariants as updates
@@ -118,11 +118,6 @@ lines_saying c = first_lines c ++ map event_line c.events
 
 -- ---- the values that may stand in them
 
--- six bytes
-pub record IsMac (mac : List ℕ) : Type 0 where
-  pub six : length mac ≡ 6
-  pub fit : IsBytes mac
-
 -- the bytes of a device
 pub record IsCapacity (n : ℕ) : Type 0 where
   pub least : 128 ≤ n
@@ -137,27 +132,18 @@ pub record IsDeny (deny : List ℕ) : Type 0 where
 abbrev pub IsWord : ℕ → Type 0
 IsWord n = n < 2 ^ 32
 
--- numbers of 32 bits, and ports of 16
-pub record IsKeepalive (sent : Keepalive) : Type 0 where
-  pub local : IsWord sent.local
-  pub local_port : sent.local_port < 2 ^ 16
-  pub remote : IsWord sent.remote
-  pub remote_port : sent.remote_port < 2 ^ 16
-  pub sequence : IsWord sent.sequence
-  pub acknowledgement : IsWord sent.acknowledgement
-
 -- Slots and prefixes that the state refuses may stand in a script.
-abbrev pub IsUpdate : Update → Type 0
-IsUpdate (updates.Multicast on) = Unit {0}
-IsUpdate (updates.Doze on) = Unit {0}
-IsUpdate (updates.Address None) = Unit {0}
-IsUpdate (updates.Address (Some a)) = IsWord a.ip × (a.prefix ≤ 255)
-IsUpdate (updates.KeepaliveAdd slot sent) = IsWord slot × IsKeepalive sent
-IsUpdate (updates.KeepaliveRemove slot) = IsWord slot
+abbrev pub IsScriptUpdate : Update → Type 0
+IsScriptUpdate (updates.Multicast on) = Unit {0}
+IsScriptUpdate (updates.Doze on) = Unit {0}
+IsScriptUpdate (updates.Address None) = Unit {0}
+IsScriptUpdate (updates.Address (Some a)) = IsWord a.ip × (a.prefix ≤ 255)
+IsScriptUpdate (updates.KeepaliveAdd slot sent) = IsWord slot × IsKeepalive sent
+IsScriptUpdate (updates.KeepaliveRemove slot) = IsWord slot
 
 -- an event at a second
 abbrev pub IsEvent : Timed → Type 0
-IsEvent e = IsWord e.time × IsUpdate e.update
+IsEvent e = IsWord e.time × IsScriptUpdate e.update
 
 -- ---- the lines of a text
 

@@ -4,7 +4,8 @@ ghost use Rattle.std.specs.Prelude.{◌≡◌, ◌≤◌, ◌⊎◌, ℕ, length
 ghost use Rattle.policy_state.specs.declared.basis.Script.{Script as ScriptValue};
 ghost use Rattle.script_text.specs.declared.script_error.ScriptKind.{ScriptKind as KindValue};
 ghost use Rattle.script_text.specs.ScriptLines.{contents_of};
-ghost use Rattle.script_text.specs.Scripts.{IsScriptText, Refuses};
+ghost use Rattle.script_text.specs.Scripts.{IsScriptText};
+ghost use Rattle.script_text.specs.ScriptFaults.{Refuses};
 ghost use Rattle.script_text.specs.ScriptReading.{left, event_answer, events_from, script_answer, Tells};
 
 use crate::events::event;

@@ -5,7 +5,8 @@ ghost use Rattle.policy_state.specs.declared.basis.Script.{Script};
 ghost use Rattle.script_text.specs.declared.script_error.ScriptError.{ScriptError};
 ghost use Rattle.script_text.specs.declared.script_error.ScriptKind.{ScriptKind};
 ghost use Rattle.script_text.specs.ScriptLines.{Contents};
-ghost use Rattle.script_text.specs.Scripts.{Says, Refuses};
+ghost use Rattle.script_text.specs.Scripts.{Says};
+ghost use Rattle.script_text.specs.ScriptFaults.{Refuses};
 ghost use Rattle.script_text.specs.ScriptReading.{script_answer};
 
 /// The function that computes gives what a text says, or its first fault.

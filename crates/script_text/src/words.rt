@@ -4,7 +4,7 @@ ghost use Rattle.std.specs.Prelude.{◌≡◌, ℕ, List, IfSome, IsNone, Some, 
 ghost use Rattle.std.specs.Option.{option_map};
 ghost use Rattle.policy_state.specs.declared.state.Address.{Address as AddressValue};
 ghost use Rattle.script_text.specs.declared.words.Endpoint.{Endpoint as EndpointValue};
-ghost use Rattle.script_text.specs.Words.{SpellsMac, SpellsEthertype, SpellsIp, SpellsAddress, SpellsEndpoint};
+ghost use Rattle.script_text.specs.Spelling.{SpellsMac, SpellsEthertype, SpellsIp, SpellsAddress, SpellsEndpoint};
 ghost use Rattle.script_text.specs.WordReading.{mac_of, ethertype_of, cut_of, ip_of, address_of, endpoint_of};
 
 use crate::digits::byte;

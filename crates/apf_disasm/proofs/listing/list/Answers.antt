@@ -1,6 +1,7 @@
 -- A byte at which nothing begins is a line, and past the last byte the listing is whole.
 use Rattle.std.proofs.Common.{arith}
 use Rattle.apf_disasm.proofs.Entering.{byte_more, listed}
+use Rattle.apf_disasm.proofs.Entries.{lines_readable}
 use Rattle.apf_disasm.proofs.listing.list.Goals as goal
 
 pub loop-at-preserved : goal.loop-at-preserved
@@ -10,4 +11,6 @@ loop-at-preserved c = record {
 }
 
 pub returns : goal.returns
-returns c = listed c.args.code.now c.loop-at.at c.loop-at.lines c.loop-at.invariant.listed (omega arith)
+returns c =
+    let whole = listed c.args.code.now c.loop-at.at c.loop-at.lines c.loop-at.invariant.listed (omega arith) in
+    record { listing = whole; readable = lines_readable c.args.code.now c.loop-at.lines (λ i. omega (arith, c.type_inv.code i)) c.requires whole }

@@ -1,4 +1,4 @@
-use Rattle.std.proofs.Common.{◌≡◌, [], ◌∷◌, List, Option, None, Some, length, map, fold, Result, Ok, Err, ap, sym, subst, ◌∙◌, refl, arith}
+use Rattle.std.proofs.Common.{◌≡◌, [], ◌∷◌, List, Option, None, Some, length, map, fold, Ok, Err, ap, sym, subst, ◌∙◌, refl, arith}
 use Rattle.std.proofs.lemmas.Result.{err_from_is_err_and}
 use Rattle.pcap_files.specs.Capture.{capture, frame_of}
 use Rattle.pcap_files.specs.declared.fault.PcapError.{PcapError}
@@ -11,11 +11,10 @@ use Rattle.filter_report.specs.Faults.{fault_of}
 use Rattle.filter_report.specs.Lines.{Adds, BreaksOff}
 use Rattle.filter_report.specs.Report.{Leads, Tells, ended}
 use Rattle.command_plan.specs.Follows.{Follows, stage, sinking}
-use Rattle.command_plan.specs.Plan.{texts}
-use Rattle.command_plan.specs.declared.fault.Fault.{Fault}
+use Rattle.command_plan.specs.Plan.{says_some}
 use Rattle.command_plan.proofs.Following.{lacks_by}
 use Rattle.command_plan.proofs.Texts.{end_of, writes_seen}
-use Rattle.apf_run.specs.Exec.{refusal_by}
+use Rattle.code_commands.specs.Exec.{refusal_by}
 use Rattle.apf_run.specs.Filter.{TellsAll}
 use Rattle.apf_run.proofs.Reported.{records_break, capture_refused, ending_breaks, all_reported}
 use Rattle.apf_run.proofs.Replaying.{capture_few}
@@ -60,7 +59,7 @@ returns-in-Some g c = λ script line h.
     writes_seen _ _ _ old new _ (g.met.O.Lines.seen_is c.args.out.now) (g.met.O.Lines.seen_is c.take_all.new.out)
     (record {
       at = λ shelf.
-          subst (λ (end : Option PcapError). Follows (texts (λ more. TellsAll end script (arrivals_of bytes (capture bytes).list) (line ∷ more)) (refusal_by end)) (stage shelf old) (stage shelf new) (end_of (refusal_by (Some c.in-Some.fault))))
+          subst (λ (end : Option PcapError). Follows (says_some (λ more. TellsAll end script (arrivals_of bytes (capture bytes).list) (line ∷ more)) (refusal_by end)) (stage shelf old) (stage shelf new) (end_of (refusal_by (Some c.in-Some.fault))))
           (sym some)
           (capture_refused script c.args.filtering line h bytes (λ k. omega (arith, c.type_inv.bytes k)) (stage shelf old) (stage shelf new)
           (record { files = refl; faults = omega arith; misses = omega arith; out_faults = e.faults }) c.take_all.new.self c.in-Some.fault refl
@@ -85,7 +84,7 @@ returns-in_err-finish-in-None g c = λ script line h.
     rw (p.1, p.2) (writes_seen _ _ _ old new _ (g.met.O.Lines.seen_is c.args.out.now) (g.met.O.Lines.seen_is c.finish.new.out)
     (record {
       at = λ shelf.
-          subst (λ (end : Option PcapError). Follows (texts (λ more. TellsAll end script (arrivals_of bytes (capture bytes).list) (line ∷ more)) (refusal_by end)) (stage shelf old) (stage shelf new) (Err (fault_of fault)))
+          subst (λ (end : Option PcapError). Follows (says_some (λ more. TellsAll end script (arrivals_of bytes (capture bytes).list) (line ∷ more)) (refusal_by end)) (stage shelf old) (stage shelf new) (Err (fault_of fault)))
           (sym none)
           (ending_breaks script c.args.filtering line h bytes (λ k. omega (arith, c.type_inv.bytes k)) (stage shelf old) (stage shelf new)
           (record { files = refl; faults = omega arith; misses = omega arith; out_faults = omega (arith, e.faults, w.faults) }) g1 mid fault
@@ -111,7 +110,7 @@ returns-in_ok-finish-in-None g c = λ script line h.
     writes_seen _ _ _ old new _ (g.met.O.Lines.seen_is c.args.out.now) (g.met.O.Lines.seen_is c.finish.new.out)
     (record {
       at = λ shelf.
-          subst (λ (end : Option PcapError). Follows (texts (λ more. TellsAll end script (arrivals_of bytes (capture bytes).list) (line ∷ more)) (refusal_by end)) (stage shelf old) (stage shelf new) (Ok tt))
+          subst (λ (end : Option PcapError). Follows (says_some (λ more. TellsAll end script (arrivals_of bytes (capture bytes).list) (line ∷ more)) (refusal_by end)) (stage shelf old) (stage shelf new) (Ok tt))
           (sym none)
           (all_reported script c.args.filtering line h bytes (λ k. omega (arith, c.type_inv.bytes k)) (stage shelf old) (stage shelf new)
           (record { files = refl; faults = omega arith; misses = omega arith; out_faults = omega (arith, e.faults, w.faults) }) g1 mid refl

@@ -1,7 +1,7 @@
 use Rattle.std.proofs.Common.{[], ◌∷◌, ◌∙◌}
 use Rattle.command_plan.proofs.Following.{err_is}
 use Rattle.command_plan.proofs.Saying.{says_more, says_broken}
-use Rattle.pcap_files.specs.Capture.{head_bytes}
+use Rattle.pcap_files.specs.Writing.{head_bytes}
 use Rattle.made_input.specs.MadeCaptures.{made_kind}
 use Rattle.apf_run.proofs.Counted.{line_as}
 use Rattle.apf_run.proofs.make.write_capture.Goals as goal

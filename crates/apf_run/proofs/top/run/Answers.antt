@@ -3,7 +3,7 @@ use Rattle.command_line.specs.Lines.{texts}
 use Rattle.command_plan.specs.Status.{status_of}
 use Rattle.command_plan.proofs.Endings.{does_later, does_stands, does_complete, does_read, does_write, does_open, does_usage, does_refuse}
 use Rattle.apf_run.proofs.Headline.{filtered}
-use Rattle.apf_run.proofs.Quiet.{keeps_early, reads_all}
+use Rattle.apf_run.proofs.Early.{keeps_early, only_begun, reads_all}
 use Rattle.apf_run.proofs.top.run.Given.{Over}
 use Rattle.apf_run.proofs.top.run.Goals as goal
 use Rattle.apf_run.proofs.top.run.Goals.{in-Err, in_default}
@@ -21,6 +21,18 @@ pub returns-clause-filters : goal.returns-clause-filters
 returns-clause-filters g c = λ script capture words ok.
     let s = does_stands _ _ _ _ c.carry_out-end.ensures in
     filtered (g.H.Source.file c.args.shelf.now) _ _ script capture _ s.0 c.carry_out-end.result words (sym (status g c) ∙ ok) s.1 s.2
+
+pub returns-clause-first : goal.returns-clause-first
+returns-clause-first g c = λ script capture words kind.
+    let s = does_stands _ _ _ _ c.carry_out-end.ensures in
+    let is = status g c in
+    only_begun (g.H.Source.file c.args.shelf.now) _ _ script capture _ s.0 c.carry_out-end.result words (elim kind [
+      | inl e ↦ inl (sym is ∙ e)
+      | inr more ↦ inr (elim more [
+        | inl e ↦ inl (sym is ∙ e)
+        | inr e ↦ inr (sym is ∙ e)
+      ])
+    ]) s.1 s.2
 
 pub returns-clause-stands : goal.returns-clause-stands
 returns-clause-stands g c =

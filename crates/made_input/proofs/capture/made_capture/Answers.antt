@@ -1,6 +1,6 @@
 use Rattle.std.proofs.Common.{ℕ, List, ◌-◌, ◌≡◌, ◌++◌, ap, ◌∙◌, arith}
 use Rattle.std.specs.List.{flat_map, range_with_len}
-use Rattle.pcap_files.specs.Capture.{head_bytes}
+use Rattle.pcap_files.specs.Writing.{head_bytes}
 use Rattle.made_input.specs.MadeCaptures.{made_kind, made_record, made_capture}
 use Rattle.made_input.proofs.Counting.{turn}
 use Rattle.made_input.proofs.capture.made_capture.Goals as goal

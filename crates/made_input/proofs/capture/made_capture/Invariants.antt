@@ -1,7 +1,7 @@
 -- The frames below this number were written.
 use Rattle.std.proofs.Common.{◌≡◌, ◌-◌, ◌++◌}
 use Rattle.std.specs.List.{flat_map, range_with_len}
-use Rattle.pcap_files.specs.Capture.{head_bytes}
+use Rattle.pcap_files.specs.Writing.{head_bytes}
 use Rattle.made_input.specs.MadeCaptures.{made_kind, made_record}
 use Rattle.made_input.proofs.capture.made_capture.Given as goal
 

@@ -1,0 +1,4 @@
+pub mod Asm
+pub mod Disasm
+pub mod Exec
+pub mod ExecText

@@ -1,4 +1,0 @@
-pub mod Building
-pub mod Saying
-pub mod Rulings
-pub mod Fragment
