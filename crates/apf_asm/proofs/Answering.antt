@@ -17,18 +17,19 @@ use Rattle.apf_asm.specs.Correct.{RunsAs}
 use Rattle.apf_asm.specs.Spacing.{code_length}
 use Rattle.apf_asm.proofs.Lengths.{length-code}
 use Rattle.apf_asm.proofs.Whole.{runs_as}
+use Rattle.apf_base.specs.Limits.{program_limit}
 
 -- ---- the answer
 
-pub answer_long : (xs : List Item) (n : ℕ) → refusal xs ≡ None → n ≡ code_length xs → 65535 < n → answer xs ≡ Some (TooLong n)
+pub answer_long : (xs : List Item) (n : ℕ) → refusal xs ≡ None → n ≡ code_length xs → program_limit < n → answer xs ≡ Some (TooLong n)
 answer_long xs n ok e lt =
-    let test : ltb 65535 n ≡ true = lt-ltb _ _ lt in
+    let test : ltb program_limit n ≡ true = lt-ltb _ _ lt in
     ap (λ (r : Option AsmError). first r (too_long (length (layout xs).bytes))) ok ∙ ap too_long (length-code xs (item_widths xs) ∙ sym e) ∙ ap (λ (b : Bool). cond b (Some (TooLong n)) None) test
 
-pub answer_none : (xs : List Item) → refusal xs ≡ None → code_length xs ≤ 65535 → answer xs ≡ None
+pub answer_none : (xs : List Item) → refusal xs ≡ None → code_length xs ≤ program_limit → answer xs ≡ None
 answer_none xs ok le =
     let n : ℕ = length (layout xs).bytes in
-    let test : ltb 65535 n ≡ false = le-ltb _ _ (omega (arith, length-code xs (item_widths xs))) in
+    let test : ltb program_limit n ≡ false = le-ltb _ _ (omega (arith, length-code xs (item_widths xs))) in
     ap (λ (r : Option AsmError). first r (too_long n)) ok ∙ ap (λ (b : Bool). cond b (Some (TooLong n)) None) test
 
 pub answer_first : (xs : List Item) (e : AsmError) → refusal xs ≡ Some e → answer xs ≡ Some e
@@ -38,16 +39,16 @@ answer_first xs e r = ap (λ (o : Option AsmError). first o (too_long (length (l
 
 record IsAccepted (xs : List Item) : Type 0 where
   pub labels : refusal xs ≡ None
-  pub short : length (layout xs).bytes ≤ 65535
+  pub short : length (layout xs).bytes ≤ program_limit
 
-accepted_cases : (o : Option AsmError) (n : ℕ) (b : Bool) → ltb 65535 n ≡ b → first o (cond b (Some (TooLong n)) None) ≡ None → (o ≡ None) × (n ≤ 65535)
+accepted_cases : (o : Option AsmError) (n : ℕ) (b : Bool) → ltb program_limit n ≡ b → first o (cond b (Some (TooLong n)) None) ≡ None → (o ≡ None) × (n ≤ program_limit)
 accepted_cases (Some e) n b test none = absurd cc
 accepted_cases None n true test none = absurd cc
-accepted_cases None n false test none = (refl, ltb-false 65535 n test)
+accepted_cases None n false test none = (refl, ltb-false program_limit n test)
 
 accepted : (xs : List Item) → answer xs ≡ None → IsAccepted xs
 accepted xs none =
-    let p = accepted_cases (refusal xs) (length (layout xs).bytes) (ltb 65535 (length (layout xs).bytes)) refl none in
+    let p = accepted_cases (refusal xs) (length (layout xs).bytes) (ltb program_limit (length (layout xs).bytes)) refl none in
     record { labels = p.0; short = p.1 }
 
 -- a label's refusal is no length
@@ -99,9 +100,9 @@ label_cases None n true e label h = absurd (subst (λ (x : AsmError). IsOfLabel 
     some_is p = cc
 label_cases None n false e label h = absurd cc
 
-long_cases : (o : Option AsmError) (n m : ℕ) (b : Bool) → OfLabel o → ltb 65535 n ≡ b → first o (cond b (Some (TooLong n)) None) ≡ Some (TooLong m) → (o ≡ None) × (m ≡ n) × (65535 < n)
+long_cases : (o : Option AsmError) (n m : ℕ) (b : Bool) → OfLabel o → ltb program_limit n ≡ b → first o (cond b (Some (TooLong n)) None) ≡ Some (TooLong m) → (o ≡ None) × (m ≡ n) × (program_limit < n)
 long_cases (Some x) n m b label test h = absurd (subst OfLabel h label)
-long_cases None n m true label test h = (refl, cc, ltb-true 65535 n test)
+long_cases None n m true label test h = (refl, cc, ltb-true program_limit n test)
 long_cases None n m false label test h = absurd cc
 
 -- ---- the clauses of a result with that answer, but for want of memory

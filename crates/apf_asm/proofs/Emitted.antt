@@ -11,6 +11,7 @@ use Rattle.apf_asm.specs.Spacing.{code_length}
 use Rattle.apf_asm.proofs.Here.{drop_here}
 use Rattle.apf_asm.proofs.Lengths.{length-piece, length-code}
 use Rattle.apf_asm.proofs.Whole.{jump_fits, offset-le}
+use Rattle.apf_base.specs.Limits.{program_limit}
 
 -- ---- the width and the offset of an item
 
@@ -65,7 +66,7 @@ pub record Reads (xs : List Item) (i : ℕ) (x : Item) (w o : ℕ) : Type 0 wher
   pub small : o < 2 ^ 32
   pub fit : IsFit x w o
 
-pub reads : (xs : List Item) (i : ℕ) (x : Item) (ws os : List ℕ) → All IsItemForm xs → ws ≡ item_widths xs → os ≡ item_offsets xs → code_length xs ≤ 65535 → i < length xs → x ≡ get_or xs i x → Reads xs i x (get_or ws i 0) (get_or os i 0)
+pub reads : (xs : List Item) (i : ℕ) (x : Item) (ws os : List ℕ) → All IsItemForm xs → ws ≡ item_widths xs → os ≡ item_offsets xs → code_length xs ≤ program_limit → i < length xs → x ≡ get_or xs i x → Reads xs i x (get_or ws i 0) (get_or os i 0)
 reads xs i x ws os forms same_widths same_offsets short lt is =
     let o : get_or os i 0 ≡ offset_here xs i x = ap (λ (v : List ℕ). get_or v i 0) same_offsets ∙ offset_at xs i x lt is in
     let w : get_or ws i 0 ≡ item_width x (get_or os i 0) = ap (λ (v : List ℕ). get_or v i 0) same_widths ∙ width_at xs i x lt is ∙ ap (item_width x) (sym o) in
@@ -110,7 +111,7 @@ emitted_more xs i x w o bs ps vs more_bs more_ps more_vs lt is r e b p v =
       widths = appended (own_width x w) _ vs more_vs _ v (ap (λ (t : List Item). (layout t).widths) cut ∙ ap (λ (a : ℕ). own_width x a ++ jump_widths rest ws) (sym width)) ∙ e.widths;
     }
 
-pub emitted_short : (xs : List Item) (i : ℕ) (bs ps vs : List ℕ) → Emitted xs i bs ps vs → code_length xs ≤ 65535 → length bs < 2 ^ 32
+pub emitted_short : (xs : List Item) (i : ℕ) (bs ps vs : List ℕ) → Emitted xs i bs ps vs → code_length xs ≤ program_limit → length bs < 2 ^ 32
 emitted_short xs i bs ps vs e short =
     omega (arith, ap length e.bytes, length-append bs (layout (drop i xs)).bytes, length-code xs (item_widths xs))
 

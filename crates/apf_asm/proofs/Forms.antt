@@ -14,7 +14,7 @@ use Rattle.apf_asm.specs.declared.item.Item.{Item}
 use Rattle.apf_asm.specs.declared.item.Item.TheVariants as items
 use Rattle.apf_asm.specs.declared.item.Target.{Target}
 use Rattle.apf_asm.specs.declared.item.Target.TheVariants as targets
-use Rattle.apf_asm.specs.Items.{IsItemForm, IsLabelled}
+use Rattle.apf_asm.specs.Items.{IsItemForm, IsLabelled, bytes_limit}
 use Rattle.apf_asm.specs.Refusals.{stands}
 use Rattle.apf_asm.proofs.LabelPlaces.{stands-append}
 use Rattle.apf_asm.specs.Building.{to_end, fixed, count, jump_if, jump_if_r1, jump, jump_unless}
@@ -168,7 +168,7 @@ form-if_r1 _ to e = absurd (false≢true e)
 pub form-jump : (to : Target) → IsItemForm (jump to)
 form-jump to = record { op = refl; reg = lit< tt; no_reg = λ e. refl; second = lit< tt; no_second = λ e. refl; no_bytes = λ e. refl; some_bytes = λ e. absurd (false≢true e); each_a_byte = no_bytes; short = omega arith }
 
-form-unless : (bytes : List ℕ) (to : Target) → 0 < length bytes → length bytes ≤ 65535 → ((k : ℕ) → slice_index bytes k < 256) → IsItemForm (jump_unless bytes to)
+form-unless : (bytes : List ℕ) (to : Target) → 0 < length bytes → length bytes ≤ bytes_limit → ((k : ℕ) → slice_index bytes k < 256) → IsItemForm (jump_unless bytes to)
 form-unless bytes to some long each = record { op = refl; reg = lit< tt; no_reg = λ e. refl; second = lit< tt; no_second = λ e. refl; no_bytes = λ e. absurd (false≢true (sym e)); some_bytes = λ e. some; each_a_byte = each; short = long }
 
 -- jumps to an end, and to a label further on
@@ -185,10 +185,10 @@ sound-if_r1_label op l xs e there s = record { each = (form-if_r1 op (targets.La
 pub sound-jump_end : (verdict : Verdict) (xs : List Item) → IsSound xs → IsSound (jump (to_end verdict) ∷ xs)
 sound-jump_end verdict xs s = record { each = (form-jump (to_end verdict), tt, inl (label_of-below verdict), s.each) }
 
-pub sound-unless_end : (bytes : List ℕ) (verdict : Verdict) (xs : List Item) → 0 < length bytes → length bytes ≤ 65535 → ((k : ℕ) → slice_index bytes k < 256) → IsSound xs → IsSound (jump_unless bytes (to_end verdict) ∷ xs)
+pub sound-unless_end : (bytes : List ℕ) (verdict : Verdict) (xs : List Item) → 0 < length bytes → length bytes ≤ bytes_limit → ((k : ℕ) → slice_index bytes k < 256) → IsSound xs → IsSound (jump_unless bytes (to_end verdict) ∷ xs)
 sound-unless_end bytes verdict xs some long each s = record { each = (form-unless bytes (to_end verdict) some long each, tt, inl (label_of-below verdict), s.each) }
 
-pub sound-unless_label : (bytes : List ℕ) (l : ℕ) (xs : List Item) → 0 < length bytes → length bytes ≤ 65535 → ((k : ℕ) → slice_index bytes k < 256) → stands l xs ≡ true → IsSound xs → IsSound (jump_unless bytes (targets.Label l) ∷ xs)
+pub sound-unless_label : (bytes : List ℕ) (l : ℕ) (xs : List Item) → 0 < length bytes → length bytes ≤ bytes_limit → ((k : ℕ) → slice_index bytes k < 256) → stands l xs ≡ true → IsSound xs → IsSound (jump_unless bytes (targets.Label l) ∷ xs)
 sound-unless_label bytes l xs some long each there s = record { each = (form-unless bytes (targets.Label l) some long each, tt, inr there, s.each) }
 
 pub sound-label : (l : ℕ) (xs : List Item) → IsSound xs → IsSound (items.Label l ∷ xs)

@@ -12,7 +12,7 @@ use Rattle.apf_coding.proofs.Numbers.{length-big_endian}
 use Rattle.apf_asm.specs.declared.item.Item.{Item}
 use Rattle.apf_asm.specs.declared.item.Item.TheVariants as items
 use Rattle.apf_asm.specs.declared.item.Jump.{Jump}
-use Rattle.apf_asm.specs.Items.{fixed_instruction, jump_instruction, marks, IsItemForm}
+use Rattle.apf_asm.specs.Items.{fixed_instruction, jump_instruction, marks, IsItemForm, bytes_limit}
 use Rattle.apf_asm.specs.Sizing.{tail_size}
 use Rattle.apf_asm.specs.Layout.{piece, size, total, total_before, item_offset, code}
 
@@ -68,7 +68,7 @@ size-spelling i =
     let c = counted_length (is_counted i.op) i.width i.bytes in
     omega arith
 
-tail_cases : (a b : Bool) (w n : ℕ) → w ≤ 4 → n ≤ 65535 → cond a w 0 + cond b (w + n) 0 ≤ 65543
+tail_cases : (a b : Bool) (w n : ℕ) → w ≤ 4 → n ≤ bytes_limit → cond a w 0 + cond b (w + n) 0 ≤ 65543
 tail_cases true true w n le few = omega arith
 tail_cases true false w n le few = omega arith
 tail_cases false true w n le few = omega arith

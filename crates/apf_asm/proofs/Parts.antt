@@ -11,7 +11,7 @@ use Rattle.apf_asm.specs.Flow.{flow}
 use Rattle.apf_asm.specs.Layout.{wide_size, wide_length}
 use Rattle.apf_asm.specs.Refusals.{stands}
 use Rattle.apf_coding.specs.Said.{Said, Missing, Says, Silent}
-use Rattle.apf_asm.specs.Saying.{End, end_of, with_registers, Follows, IsReady, Tells}
+use Rattle.apf_asm.specs.Saying.{End, flow_end, with_registers, FollowsSaid, IsReady, TellsSaid}
 use Rattle.apf_asm.specs.Fragment.{IsApart, AreFresh, IsFragment, IsPart, labels}
 use Rattle.apf_asm.proofs.Forms.{IsSound, sound-of, sound-append, labels-append, forms_of, label_form_of, land_of}
 use Rattle.apf_coding.proofs.Language.{Language, said_first}
@@ -24,16 +24,16 @@ still_ready : (n : ℕ) (frame : List ℕ) (age : ℕ) (m : State) (r0 r1 : ℕ)
 still_ready n frame age m r0 r1 ready = record { long = ready.long; bytes = ready.bytes; slots = ready.slots; memory = ready.memory }
 
 -- registers are no part of what is said of a machine
-same_base : (a : Said) (rest : List Item) (n : ℕ) (frame : List ℕ) (m : State) (r0 r1 : ℕ) (end : End) → Follows a rest n frame (with_registers r0 r1 m) end → Follows a rest n frame m end
+same_base : (a : Said) (rest : List Item) (n : ℕ) (frame : List ℕ) (m : State) (r0 r1 : ℕ) (end : End) → FollowsSaid a rest n frame (with_registers r0 r1 m) end → FollowsSaid a rest n frame m end
 same_base Silent rest n frame m r0 r1 end h = h
 same_base Missing rest n frame m r0 r1 end h = h
 same_base (Says verdict number) rest n frame m r0 r1 end h = h
 
-pub tells-then : (q p : ℕ → List ℕ → Said) (xs ys : List Item) → ((l : ℕ) → l < 2 → stands l ys ≡ false) → Tells q xs → Tells p ys → Tells (λ age frame. said_first (q age frame) (p age frame)) (xs ++ ys)
+pub tells-then : (q p : ℕ → List ℕ → Said) (xs ys : List Item) → ((l : ℕ) → l < 2 → stands l ys ≡ false) → TellsSaid q xs → TellsSaid p ys → TellsSaid (λ age frame. said_first (q age frame) (p age frame)) (xs ++ ys)
 tells-then q p xs ys away first second = record {
   tells = λ n frame age m rest ready.
       joined_said n frame m (q age frame) (p age frame) ys rest _ away (λ r0 r1. same_base (p age frame) rest n frame m r0 r1 _ (second.tells n frame age (with_registers r0 r1 m) rest (still_ready n frame age m r0 r1 ready)))
-      (subst (λ (items : List Item). Follows (q age frame) (ys ++ rest) n frame m (on n frame items m)) (sym (append_assoc xs ys rest)) (first.tells n frame age m (ys ++ rest) ready));
+      (subst (λ (items : List Item). FollowsSaid (q age frame) (ys ++ rest) n frame m (on n frame items m)) (sym (append_assoc xs ys rest)) (first.tells n frame age m (ys ++ rest) ready));
 }
 
 -- ---- labels
@@ -177,7 +177,7 @@ part-then q p from mid to most more xs ys low x y =
 pub part-same : (q p : ℕ → List ℕ → Said) (from to most more : ℕ) (xs : List Item) → ((age : ℕ) (frame : List ℕ) → q age frame ≡ p age frame) → most ≤ more → IsPart q from to most xs → IsPart p from to more xs
 part-same q p from to most more xs same le x = record {
   form = fragment-of from to more xs (sound-fragment from to most xs x.form) x.form.rises x.form.fresh x.form.drawn (omega (arith, x.form.short));
-  tells = record { tells = λ n frame age m rest ready. subst (λ (said : Said). Follows said rest n frame m (end_of (flow (xs ++ rest) n frame m))) (same age frame) (x.tells.tells n frame age m rest ready) };
+  tells = record { tells = λ n frame age m rest ready. subst (λ (said : Said). FollowsSaid said rest n frame m (flow_end (flow (xs ++ rest) n frame m))) (same age frame) (x.tells.tells n frame age m rest ready) };
 }
 
 -- from any registers of a machine that stands before a rule, a part yields the ruling that it tells

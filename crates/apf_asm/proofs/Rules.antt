@@ -22,7 +22,7 @@ use Rattle.apf_asm.specs.Refusals.{stands}
 use Rattle.apf_asm.proofs.LabelPlaces.{stands-append}
 use Rattle.apf_asm.specs.Building.{label_of, to_end, fixed, count, jump_if, jump_if_r1, jump, jump_unless}
 use Rattle.apf_coding.specs.Said.{Said, Missing, Says, Silent}
-use Rattle.apf_asm.specs.Saying.{End, with_registers, counted, Follows, IsReady, Tells}
+use Rattle.apf_asm.specs.Saying.{End, with_registers, counted, FollowsSaid, IsReady, TellsSaid}
 use Rattle.apf_coding.proofs.Language.{Language, said_first, reading}
 use Rattle.apf_asm.proofs.Steps.{on, at, onto, on-label, on-next, on-fault, on-jump_fault, on-taken, on-not_taken, at-away, at-here}
 
@@ -115,9 +115,9 @@ passed_by false x y e = refl
 
 module _ (n : ℕ) (frame : List ℕ) (m : State) where
   -- what items say, and what they say that stand behind them
-  pub joined_said : (a b : Said) (zs rest : List Item) (end : End) → ((l : ℕ) → l < 2 → stands l zs ≡ false) → ((r0 r1 : ℕ) → Follows b rest n frame m (on n frame (zs ++ rest) (with_registers r0 r1 m)))
-      → Follows a (zs ++ rest) n frame m end → Follows (said_first a b) rest n frame m end
-  joined_said Silent b zs rest end away more h = subst (λ (e : End). Follows b rest n frame m e) (sym h.1.1) (more h.0 h.1.0)
+  pub joined_said : (a b : Said) (zs rest : List Item) (end : End) → ((l : ℕ) → l < 2 → stands l zs ≡ false) → ((r0 r1 : ℕ) → FollowsSaid b rest n frame m (on n frame (zs ++ rest) (with_registers r0 r1 m)))
+      → FollowsSaid a (zs ++ rest) n frame m end → FollowsSaid (said_first a b) rest n frame m end
+  joined_said Silent b zs rest end away more h = subst (λ (e : End). FollowsSaid b rest n frame m e) (sym h.1.1) (more h.0 h.1.0)
   joined_said Missing b zs rest end away more h = h
   joined_said (Says verdict number) b zs rest end away more h =
       (h.0, h.1 ∙ at-away n frame (label_of verdict) zs rest (with_registers h.0 (counted number) m) (away (label_of verdict) (label_of-below verdict)))
@@ -128,14 +128,14 @@ module _ {R C : Type 0} (L : Language R C) (n : ℕ) (frame : List ℕ) (m : Sta
 
   -- from these registers on, and whatever follows, the items come to the ruling
   pub record Yields (r0 r1 : ℕ) (ruling : R) (xs : List Item) : Type 0 where
-    pub flows : (rest : List Item) → Follows (L.said ruling) rest n frame m (on n frame (xs ++ rest) (s r0 r1))
+    pub flows : (rest : List Item) → FollowsSaid (L.said ruling) rest n frame m (on n frame (xs ++ rest) (s r0 r1))
     pub away : (l : ℕ) → l < 2 → stands l xs ≡ false
 
-  from_end : (said : Said) (rest : List Item) (a b : End) → a ≡ b → Follows said rest n frame m b → Follows said rest n frame m a
-  from_end said rest a b e h = subst (λ (end : End). Follows said rest n frame m end) (sym e) h
+  from_end : (said : Said) (rest : List Item) (a b : End) → a ≡ b → FollowsSaid said rest n frame m b → FollowsSaid said rest n frame m a
+  from_end said rest a b e h = subst (λ (end : End). FollowsSaid said rest n frame m end) (sym e) h
 
-  from_said : (a b : Said) (rest : List Item) (end : End) → a ≡ b → Follows b rest n frame m end → Follows a rest n frame m end
-  from_said a b rest end e h = subst (λ (said : Said). Follows said rest n frame m end) (sym e) h
+  from_said : (a b : Said) (rest : List Item) (end : End) → a ≡ b → FollowsSaid b rest n frame m end → FollowsSaid a rest n frame m end
+  from_said a b rest end e h = subst (λ (said : Said). FollowsSaid said rest n frame m end) (sym e) h
 
   -- ---- the end, and another form of the ruling
 
@@ -200,7 +200,7 @@ module _ {R C : Type 0} (L : Language R C) (n : ℕ) (frame : List ℕ) (m : Sta
   -- ---- fields
 
   load_flows : (f : Fixed) (r0 r1 : ℕ) (k : ℕ → R) (xs rest : List Item) (o : Option ℕ) → meaning (fixed_instruction f) n frame (s r0 r1) ≡ loaded 0 o (s r0 r1) → ((v : ℕ) → o ≡ Some v → Yields v r1 (k v) xs)
-      → Follows (L.said (reading L o k)) rest n frame m (on n frame (items.Fixed f ∷ (xs ++ rest)) (s r0 r1))
+      → FollowsSaid (L.said (reading L o k)) rest n frame m (on n frame (items.Fixed f ∷ (xs ++ rest)) (s r0 r1))
   load_flows f r0 r1 k xs rest None e more = from_said _ Missing rest _ L.said-missing (on-fault n frame f (xs ++ rest) (s r0 r1) Frame e)
   load_flows f r0 r1 k xs rest (Some v) e more = from_end (L.said (k v)) rest _ _ (on-next n frame f (xs ++ rest) (s r0 r1) (s v r1) e) ((more v refl).flows rest)
 
@@ -216,7 +216,7 @@ module _ {R C : Type 0} (L : Language R C) (n : ℕ) (frame : List ℕ) (m : Sta
   reads_known f r0 r1 k xs o e away more = record { flows = λ rest. load_flows f r0 r1 k xs rest o e more; away = away }
 
   load_1_flows : (f : Fixed) (r0 r1 : ℕ) (k : ℕ → R) (xs rest : List Item) (o : Option ℕ) → meaning (fixed_instruction f) n frame (s r0 r1) ≡ loaded 1 o (s r0 r1) → ((v : ℕ) → Yields r0 v (k v) xs)
-      → Follows (L.said (reading L o k)) rest n frame m (on n frame (items.Fixed f ∷ (xs ++ rest)) (s r0 r1))
+      → FollowsSaid (L.said (reading L o k)) rest n frame m (on n frame (items.Fixed f ∷ (xs ++ rest)) (s r0 r1))
   load_1_flows f r0 r1 k xs rest None e more = from_said _ Missing rest _ L.said-missing (on-fault n frame f (xs ++ rest) (s r0 r1) Frame e)
   load_1_flows f r0 r1 k xs rest (Some v) e more = from_end (L.said (k v)) rest _ _ (on-next n frame f (xs ++ rest) (s r0 r1) (s r0 v) e) ((more v).flows rest)
 
@@ -286,7 +286,7 @@ module _ {R C : Type 0} (L : Language R C) (n : ℕ) (frame : List ℕ) (m : Sta
 
   answer_flows : (j : JumpItem) (r0 : ℕ) (verdict : Verdict) (c : C) (a : R) (xs rest : List Item) (b : Bool) → j.to ≡ to_end verdict
       → meaning (jump_instruction j 0 0) n frame (s r0 (counted (L.number c))) ≡ cond b (Jump 0) (Next (s r0 (counted (L.number c)))) → Yields r0 (counted (L.number c)) a xs
-      → Follows (L.said (cond b (L.says verdict c) a)) rest n frame m (on n frame (items.Jump j ∷ (xs ++ rest)) (s r0 (counted (L.number c))))
+      → FollowsSaid (L.said (cond b (L.says verdict c) a)) rest n frame m (on n frame (items.Jump j ∷ (xs ++ rest)) (s r0 (counted (L.number c))))
   answer_flows j r0 verdict c a xs rest true to e y =
       from_said _ (Says verdict (L.number c)) rest _ (L.said-says verdict c) (
         r0,
@@ -318,7 +318,7 @@ module _ {R C : Type 0} (L : Language R C) (n : ℕ) (frame : List ℕ) (m : Sta
 
   compare_flows : (j : JumpItem) (r0 : ℕ) (bytes : List ℕ) (verdict : Verdict) (c : C) (a : R) (xs rest : List Item) (o : Option (List ℕ)) → j.to ≡ to_end verdict
       → meaning (jump_instruction j 0 0) n frame (s r0 (counted (L.number c))) ≡ compared bytes o (s r0 (counted (L.number c))) → Yields r0 (counted (L.number c)) a xs
-      → Follows (L.said (reading L o (λ there. cond (not (bytes_eq there bytes)) (L.says verdict c) a))) rest n frame m (on n frame (items.Jump j ∷ (xs ++ rest)) (s r0 (counted (L.number c))))
+      → FollowsSaid (L.said (reading L o (λ there. cond (not (bytes_eq there bytes)) (L.says verdict c) a))) rest n frame m (on n frame (items.Jump j ∷ (xs ++ rest)) (s r0 (counted (L.number c))))
   compare_flows j r0 bytes verdict c a xs rest None to e y = from_said _ Missing rest _ L.said-missing (on-jump_fault n frame j (xs ++ rest) (s r0 (counted (L.number c))) Frame e)
   compare_flows j r0 bytes verdict c a xs rest (Some there) to e y = answer_flows j r0 verdict c a xs rest (not (bytes_eq there bytes)) to e y
 
@@ -338,7 +338,7 @@ module _ {R C : Type 0} (L : Language R C) (n : ℕ) (frame : List ℕ) (m : Sta
   then_on r0 r1 a b xs ys y z = record {
     flows = λ rest. from_said _ (said_first (L.said a) (L.said b)) rest _ (L.said-otherwise a b)
         (joined_said n frame m (L.said a) (L.said b) ys rest _ (z 0 0).away (λ q0 q1. (z q0 q1).flows rest)
-        (subst (λ (items : List Item). Follows (L.said a) (ys ++ rest) n frame m (on n frame items (s r0 r1))) (sym (append_assoc xs ys rest)) (y.flows (ys ++ rest))));
+        (subst (λ (items : List Item). FollowsSaid (L.said a) (ys ++ rest) n frame m (on n frame items (s r0 r1))) (sym (append_assoc xs ys rest)) (y.flows (ys ++ rest))));
     away = λ l lt. stands-both l xs ys (y.away l lt) ((z 0 0).away l lt);
   }
 
@@ -354,7 +354,7 @@ module _ {R C : Type 0} (L : Language R C) (n : ℕ) (frame : List ℕ) (m : Sta
   leave_flows : (j : JumpItem) (l r0 r1 : ℕ) (a b : R) (xs ys rest : List Item) (t : Bool) → j.to ≡ targets.Label l
       → meaning (jump_instruction j 0 0) n frame (s r0 r1) ≡ cond t (Jump 0) (Next (s r0 r1)) → stands l xs ≡ false
       → Yields r0 r1 a (xs ++ (items.Label l ∷ ys)) → ((q0 q1 : ℕ) → Yields q0 q1 b ys)
-      → Follows (L.said (cond t b a)) rest n frame m (on n frame (items.Jump j ∷ ((xs ++ (items.Label l ∷ ys)) ++ rest)) (s r0 r1))
+      → FollowsSaid (L.said (cond t b a)) rest n frame m (on n frame (items.Jump j ∷ ((xs ++ (items.Label l ∷ ys)) ++ rest)) (s r0 r1))
   leave_flows j l r0 r1 a b xs ys rest true to e apart y z =
       from_end (L.said b) rest _ _
       (on-taken n frame j ((xs ++ (items.Label l ∷ ys)) ++ rest) (s r0 r1) e
@@ -391,7 +391,7 @@ module _ {R C : Type 0} (L : Language R C) (n : ℕ) (frame : List ℕ) (m : Sta
   leave_unless_flows : (j : JumpItem) (l r0 r1 : ℕ) (bytes : List ℕ) (a b : R) (xs ys rest : List Item) (o : Option (List ℕ)) → j.to ≡ targets.Label l
       → meaning (jump_instruction j 0 0) n frame (s r0 r1) ≡ compared bytes o (s r0 r1) → stands l xs ≡ false
       → Yields r0 r1 a (xs ++ (items.Label l ∷ ys)) → ((q0 q1 : ℕ) → Yields q0 q1 b ys)
-      → Follows (L.said (reading L o (λ there. cond (not (bytes_eq there bytes)) b a))) rest n frame m (on n frame (items.Jump j ∷ ((xs ++ (items.Label l ∷ ys)) ++ rest)) (s r0 r1))
+      → FollowsSaid (L.said (reading L o (λ there. cond (not (bytes_eq there bytes)) b a))) rest n frame m (on n frame (items.Jump j ∷ ((xs ++ (items.Label l ∷ ys)) ++ rest)) (s r0 r1))
   leave_unless_flows j l r0 r1 bytes a b xs ys rest None to e apart y z = from_said _ Missing rest _ L.said-missing (on-jump_fault n frame j ((xs ++ (items.Label l ∷ ys)) ++ rest) (s r0 r1) Frame e)
   leave_unless_flows j l r0 r1 bytes a b xs ys rest (Some there) to e apart y z = leave_flows j l r0 r1 a b xs ys rest (not (bytes_eq there bytes)) to e apart y z
 
@@ -408,5 +408,5 @@ module _ {R C : Type 0} (L : Language R C) (n : ℕ) (frame : List ℕ) (m : Sta
 -- ---- whole fragments
 
 -- items that yield a ruling from every machine that stands before a rule tell what it says
-pub told : {R C : Type 0} (L : Language R C) (question : ℕ → List ℕ → R) (xs : List Item) → ((n : ℕ) (frame : List ℕ) (age : ℕ) (m : State) → IsReady n frame age m → Yields L n frame m m.r0 m.r1 (question age frame) xs) → Tells (λ age frame. L.said (question age frame)) xs
+pub told : {R C : Type 0} (L : Language R C) (question : ℕ → List ℕ → R) (xs : List Item) → ((n : ℕ) (frame : List ℕ) (age : ℕ) (m : State) → IsReady n frame age m → Yields L n frame m m.r0 m.r1 (question age frame) xs) → TellsSaid (λ age frame. L.said (question age frame)) xs
 told L question xs h = record { tells = λ n frame age m rest ready. (h n frame age m ready).flows rest }

@@ -10,7 +10,7 @@ use Rattle.apf_asm.specs.declared.item.Item.{Item}
 use Rattle.apf_asm.specs.declared.item.Item.TheVariants as items
 use Rattle.apf_asm.specs.declared.item.Target.{Target}
 use Rattle.apf_asm.specs.declared.item.Target.TheVariants as targets
-use Rattle.apf_asm.specs.Items.{marks, IsItemForm}
+use Rattle.apf_asm.specs.Items.{marks, IsItemForm, item_limit}
 use Rattle.apf_asm.specs.Layout.{size, total, total_before, offset, item_offset, item_width, item_widths, item_offsets, beside}
 use Rattle.apf_asm.specs.Refusals.{stands, refused, refused_from, refused_at, refusal}
 use Rattle.apf_asm.specs.Labels.{label_at, target_index, item_index, aims_from}
@@ -200,7 +200,7 @@ unfolding item_widths
 item_widths-le [] = All-nil (λ w. w ≤ 4)
 item_widths-le (x ∷ xs) = All-cons (λ w. w ≤ 4) _ _ (item_width-le x _) (item_widths-le xs)
 
-pub code_length-small : (xs : List Item) (i : ℕ) → All IsItemForm xs → length xs ≤ 1048576 → code_length (drop i xs) < 2 ^ 40
+pub code_length-small : (xs : List Item) (i : ℕ) → All IsItemForm xs → length xs ≤ item_limit → code_length (drop i xs) < 2 ^ 40
 code_length-small xs i forms few =
     let rest : List Item = drop i xs in
     let small = total-small rest (item_widths rest) (All-drop IsItemForm i xs forms) (item_widths-le rest) in
@@ -216,7 +216,7 @@ pub record Turn (xs : List Item) (i : ℕ) (x : Item) (here there : ℕ) : Type 
   pub order : there ≤ here
   pub offset_is : item_offset x (drop (i + 1) xs) (item_widths (drop (i + 1) xs)) ≡ apart x here there
 
-pub turn : (xs : List Item) (aims : List ℕ) (i j : ℕ) (x : Item) (ws os ds : List ℕ) (here there : ℕ) → All IsItemForm xs → length xs ≤ 1048576 → refusal xs ≡ None → aims ≡ aims_from 0 xs → j ≡ i + 1 → Spaced xs j ws os ds → x ≡ get_or xs i x
+pub turn : (xs : List Item) (aims : List ℕ) (i j : ℕ) (x : Item) (ws os ds : List ℕ) (here there : ℕ) → All IsItemForm xs → length xs ≤ item_limit → refusal xs ≡ None → aims ≡ aims_from 0 xs → j ≡ i + 1 → Spaced xs j ws os ds → x ≡ get_or xs i x
     → here ≡ get_or ds (i + 1) here → there ≡ get_or ds (get_or aims i 0) there → Turn xs i x here there
 turn xs aims i j x ws os ds here there forms few ok all next s is read aimed =
     let g = goes xs aims i x ok all (omega (arith, s.inside)) is in

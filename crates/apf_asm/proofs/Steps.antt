@@ -12,9 +12,9 @@ use Rattle.apf_asm.specs.declared.item.Target.{Target}
 use Rattle.apf_asm.specs.Items.{fixed_instruction, jump_instruction, marks}
 use Rattle.apf_asm.specs.Flow.{Ending, Reached, Stopped, Flow, stopped, one_later, behind, behind_step, follows, goes_to, flow, flow_at}
 use Rattle.apf_asm.specs.Refusals.{stands}
-use Rattle.apf_asm.specs.Saying.{End, fault_of, end_of}
+use Rattle.apf_asm.specs.Saying.{End, ending_fault, flow_end}
 
-fault_later : (e : Ending) → fault_of (one_later e) ≡ fault_of e
+fault_later : (e : Ending) → ending_fault (one_later e) ≡ ending_fault e
 fault_later Reached = refl
 fault_later (Stopped kind item) = refl
 
@@ -24,22 +24,22 @@ ending_with f fault = record { verdict = f.verdict; fault = fault; memory = f.me
 same_end : (f : Flow) (a b : Option FaultKind) → a ≡ b → ending_with f a ≡ ending_with f b
 same_end f a b e = ap (ending_with f) e
 
-pub end-behind : (f : Flow) → end_of (behind f) ≡ end_of f
+pub end-behind : (f : Flow) → flow_end (behind f) ≡ flow_end f
 end-behind f = same_end f _ _ (fault_later f.ending)
 
-pub end-behind_step : (f : Flow) → end_of (behind_step f) ≡ end_of f
+pub end-behind_step : (f : Flow) → flow_end (behind_step f) ≡ flow_end f
 end-behind_step f = same_end f _ _ (fault_later f.ending)
 
 module _ (n : ℕ) (frame : List ℕ) where
   -- from the first of the items on, from a label on, and from a jump's target on
   abbrev pub on : List Item → State → End
-  on xs m = end_of (flow xs n frame m)
+  on xs m = flow_end (flow xs n frame m)
 
   abbrev pub at : ℕ → List Item → State → End
-  at l xs m = end_of (flow_at l xs n frame m)
+  at l xs m = flow_end (flow_at l xs n frame m)
 
   abbrev pub onto : Target → List Item → State → End
-  onto to xs m = end_of (goes_to to (λ l. flow_at l xs n frame) m)
+  onto to xs m = flow_end (goes_to to (λ l. flow_at l xs n frame) m)
 
   -- ---- one item
 
@@ -50,32 +50,32 @@ module _ (n : ℕ) (frame : List ℕ) where
   pub on-next : (f : Fixed) (xs : List Item) (m next : State) → meaning (fixed_instruction f) n frame m ≡ Next next → on (items.Fixed f ∷ xs) m ≡ on xs next
   unfolding flow
   on-next f xs m next e =
-      ap (λ (x : Meaning). end_of (follows x (flow xs n frame) (flow xs n frame) m)) e
+      ap (λ (x : Meaning). flow_end (follows x (flow xs n frame) (flow xs n frame) m)) e
       ∙ end-behind_step (flow xs n frame next)
 
-  pub on-fault : (f : Fixed) (xs : List Item) (m : State) (kind : FaultKind) → meaning (fixed_instruction f) n frame m ≡ Fault kind → on (items.Fixed f ∷ xs) m ≡ end_of (stopped kind m)
+  pub on-fault : (f : Fixed) (xs : List Item) (m : State) (kind : FaultKind) → meaning (fixed_instruction f) n frame m ≡ Fault kind → on (items.Fixed f ∷ xs) m ≡ flow_end (stopped kind m)
   unfolding flow
-  on-fault f xs m kind e = ap (λ (x : Meaning). end_of (follows x (flow xs n frame) (flow xs n frame) m)) e
+  on-fault f xs m kind e = ap (λ (x : Meaning). flow_end (follows x (flow xs n frame) (flow xs n frame) m)) e
 
-  pub on-jump_fault : (j : JumpItem) (xs : List Item) (m : State) (kind : FaultKind) → meaning (jump_instruction j 0 0) n frame m ≡ Fault kind → on (items.Jump j ∷ xs) m ≡ end_of (stopped kind m)
+  pub on-jump_fault : (j : JumpItem) (xs : List Item) (m : State) (kind : FaultKind) → meaning (jump_instruction j 0 0) n frame m ≡ Fault kind → on (items.Jump j ∷ xs) m ≡ flow_end (stopped kind m)
   unfolding flow
-  on-jump_fault j xs m kind e = ap (λ (x : Meaning). end_of (follows x (flow xs n frame) (goes_to j.to (λ l. flow_at l xs n frame)) m)) e
+  on-jump_fault j xs m kind e = ap (λ (x : Meaning). flow_end (follows x (flow xs n frame) (goes_to j.to (λ l. flow_at l xs n frame)) m)) e
 
   pub on-taken : (j : JumpItem) (xs : List Item) (m : State) → meaning (jump_instruction j 0 0) n frame m ≡ Jump 0 → on (items.Jump j ∷ xs) m ≡ onto j.to xs m
   unfolding flow
   on-taken j xs m e =
-      ap (λ (x : Meaning). end_of (follows x (flow xs n frame) (goes_to j.to (λ l. flow_at l xs n frame)) m)) e
+      ap (λ (x : Meaning). flow_end (follows x (flow xs n frame) (goes_to j.to (λ l. flow_at l xs n frame)) m)) e
       ∙ end-behind_step (goes_to j.to (λ l. flow_at l xs n frame) m)
 
   pub on-not_taken : (j : JumpItem) (xs : List Item) (m : State) → meaning (jump_instruction j 0 0) n frame m ≡ Next m → on (items.Jump j ∷ xs) m ≡ on xs m
   unfolding flow
   on-not_taken j xs m e =
-      ap (λ (x : Meaning). end_of (follows x (flow xs n frame) (goes_to j.to (λ l. flow_at l xs n frame)) m)) e
+      ap (λ (x : Meaning). flow_end (follows x (flow xs n frame) (goes_to j.to (λ l. flow_at l xs n frame)) m)) e
       ∙ end-behind_step (flow xs n frame m)
 
   -- ---- from a label on
 
-  at_passed : (b c : Bool) (l : ℕ) (xs : List Item) (m : State) → b ≡ false → end_of ((cond b (flow xs n frame) (flow_at l xs n frame)) m) ≡ at l xs m
+  at_passed : (b c : Bool) (l : ℕ) (xs : List Item) (m : State) → b ≡ false → flow_end ((cond b (flow xs n frame) (flow_at l xs n frame)) m) ≡ at l xs m
   at_passed true c l xs m e = absurd cc
   at_passed false c l xs m e = refl
 
@@ -93,7 +93,7 @@ module _ (n : ℕ) (frame : List ℕ) where
       ∙ at_passed (marks l x) (stands l xs) l (xs ++ rest) m p.0
       ∙ at-away l xs rest m p.1
 
-  at_marked : (b : Bool) (l : ℕ) (xs : List Item) (m : State) → b ≡ true → end_of ((cond b (flow xs n frame) (flow_at l xs n frame)) m) ≡ on xs m
+  at_marked : (b : Bool) (l : ℕ) (xs : List Item) (m : State) → b ≡ true → flow_end ((cond b (flow xs n frame) (flow_at l xs n frame)) m) ≡ on xs m
   at_marked true l xs m e = refl
   at_marked false l xs m e = absurd cc
 

@@ -16,7 +16,7 @@ use Rattle.apf_coding.specs.declared.instruction.Op.{Op}
 use Rattle.apf_coding.specs.declared.instruction.Op.TheVariants.{Ldb, Ldh, Ldw, Ldbx, Ldhx, Ldwx, Add, Mul, Div, And, Or, Sh, Li, Jmp, Jeq, Jne, Jgt, Jlt, Jset, Jnebs, Ext, Lddw, Stdw}
 use Rattle.apf_coding.specs.Instruction.{has_second, is_counted}
 use Rattle.apf_coding.specs.Spelling.{IsWidth}
-use Rattle.apf_coding.specs.Names.{name_of}
+use Rattle.apf_coding.specs.Names.{op_name}
 use Rattle.apf_asm.specs.declared.item.Target.{Target}
 use Rattle.apf_asm.specs.declared.item.Target.TheVariants as targets
 use Rattle.apf_asm.specs.TextForms.{Form, Label, Load, Arithmetic, ArithmeticR1, Shift, ShiftR1, Signed, LoadSlot, StoreSlot, Complement, Negate, Swap, Move, Jump, Compare, CompareR1, CompareBytes, Dotted, Byte, register_word, target_word, hex_word, dotted_word, second_words, counted_words, words_of, item_of, IsTarget, IsAllowed}
@@ -75,7 +75,7 @@ signed_plain (negsuc n) fits =
     let small : n < 2 ^ 31 = fits.sfits in
     plain-append (45 ∷ []) (decimal (suc n)) (record { some = omega arith; plain = refl }) (digits_plain (suc n) (omega arith)).plain
 
-plain_parts : (op : Op) → (0 < length (name_of op)) × (list_all is_word_byte (name_of op) ≡ true)
+plain_parts : (op : Op) → (0 < length (op_name op)) × (list_all is_word_byte (op_name op) ≡ true)
 plain_parts Ldb = (omega arith, refl)
 plain_parts Ldh = (omega arith, refl)
 plain_parts Ldw = (omega arith, refl)
@@ -100,7 +100,7 @@ plain_parts Ext = (omega arith, refl)
 plain_parts Lddw = (omega arith, refl)
 plain_parts Stdw = (omega arith, refl)
 
-name_plain : (op : Op) → IsPlain (name_of op)
+name_plain : (op : Op) → IsPlain (op_name op)
 name_plain op = let parts = plain_parts op in record { some = parts.0; plain = parts.1 }
 
 register_plain : (reg : ℕ) → reg < 2 → IsPlain (register_word reg)
@@ -138,7 +138,7 @@ width_plain w width = elim width [
 ]
 
 dotted_plain : (op : Op) (w : ℕ) → IsWidth w → IsPlain (dotted_word op w)
-dotted_plain op w width = plain-append (name_of op ++ codes ".") ((48 + w) ∷ []) (plain-append (name_of op) (codes ".") (name_plain op) refl) (width_plain w width)
+dotted_plain op w width = plain-append (op_name op ++ codes ".") ((48 + w) ∷ []) (plain-append (op_name op) (codes ".") (name_plain op) refl) (width_plain w width)
 
 pub digits_printable : (n : ℕ) → n < 2 ^ 32 → list_all is_printable (decimal n) ≡ true
 digits_printable n small = weaker is_word_byte is_printable printable_byte (decimal n) (word_plain n small).plain

@@ -11,13 +11,13 @@ use Rattle.apf_coding.specs.declared.instruction.Op.{Op}
 use Rattle.apf_coding.specs.declared.instruction.Op.TheVariants.{Ldb, Ldh, Ldw, Ldbx, Ldhx, Ldwx, Add, Mul, Div, And, Or, Sh, Li, Jmp, Jeq, Jne, Jgt, Jlt, Jset, Jnebs, Ext, Lddw, Stdw}
 use Rattle.apf_coding.specs.Instruction.{is_conditional, all_ops}
 use Rattle.apf_coding.specs.Spelling.{IsWidth}
-use Rattle.apf_coding.specs.Names.{name_of}
+use Rattle.apf_coding.specs.Names.{op_name}
 use Rattle.apf_coding.specs.Reading.{◌>>=◌}
 use Rattle.apf_coding.proofs.Fields.{bind_some, some_is}
 use Rattle.apf_asm.specs.declared.text_head.Head.{Head}
 use Rattle.apf_asm.specs.declared.text_head.Head.TheVariants as heads
 use Rattle.apf_asm.specs.TextForms.{dotted_word, is_load, is_arithmetic, is_signed, IsWord}
-use Rattle.apf_asm.specs.TextReading.{number_of, op_named, width_of, op_head, other_head, head_from, dotted_head, is_label_word, is_dotted_word, head_of}
+use Rattle.apf_asm.specs.TextReading.{word_number, op_named, width_of, op_head, other_head, head_from, dotted_head, is_label_word, is_dotted_word, head_of}
 use Rattle.apf_asm.proofs.TextNumbers.{number_of_is, number_of-decimal}
 use Rattle.plain_text.proofs.Words.{equal_words}
 use Rattle.apf_asm.proofs.TextWords.{chosen}
@@ -25,33 +25,33 @@ use Rattle.apf_asm.proofs.TextWords.{chosen}
 -- a word that says so of the line
 abbrev pub IsHead : Head → List ℕ → Type 0
 IsHead (heads.Label n) word = IsWord n × (word ≡ codes "L" ++ decimal n ++ codes ":")
-IsHead (heads.Load op) word = (is_load op ≡ true) × (word ≡ name_of op)
-IsHead (heads.Arithmetic op) word = (is_arithmetic op ≡ true) × (word ≡ name_of op)
+IsHead (heads.Load op) word = (is_load op ≡ true) × (word ≡ op_name op)
+IsHead (heads.Arithmetic op) word = (is_arithmetic op ≡ true) × (word ≡ op_name op)
 IsHead heads.Shift word = word ≡ codes "sh"
-IsHead (heads.Signed op) word = (is_signed op ≡ true) × (word ≡ name_of op)
+IsHead (heads.Signed op) word = (is_signed op ≡ true) × (word ≡ op_name op)
 IsHead (heads.Slot base) word = ((base ≡ 0) × (word ≡ codes "ldm")) ⊎ ((base ≡ 16) × (word ≡ codes "stm"))
 IsHead (heads.Register code) word = ((code ≡ 32) × (word ≡ codes "not")) ⊎ (((code ≡ 33) × (word ≡ codes "neg")) ⊎ ((code ≡ 35) × (word ≡ codes "move")))
 IsHead heads.Swap word = word ≡ codes "swap"
 IsHead heads.Jump word = word ≡ codes "jmp"
-IsHead (heads.Compare op) word = (is_conditional op ≡ true) × (word ≡ name_of op)
+IsHead (heads.Compare op) word = (is_conditional op ≡ true) × (word ≡ op_name op)
 IsHead heads.CompareBytes word = word ≡ codes "jnebs"
 IsHead (heads.Dotted op width) word = IsWidth width × (word ≡ dotted_word op width)
 IsHead heads.Byte word = word ≡ codes ".byte"
 
 -- ---- the opcode of a name
 
-named_from : (name : List ℕ) (op : Op) (ops : List Op) → find (λ op. bytes_eq (name_of op) name) ops ≡ Some op → name_of op ≡ name
+named_from : (name : List ℕ) (op : Op) (ops : List Op) → find (λ op. bytes_eq (op_name op) name) ops ≡ Some op → op_name op ≡ name
 named_from name op [] e = absurd cc
-named_from name op (other ∷ ops) e = elim (chosen (name_of other) name (bytes_eq (name_of other) name) (Some other) _ op refl e) [
-  | inl same ↦ subst (λ (x : Op). name_of x ≡ name) (some_is other op same.1) same.0
+named_from name op (other ∷ ops) e = elim (chosen (op_name other) name (bytes_eq (op_name other) name) (Some other) _ op refl e) [
+  | inl same ↦ subst (λ (x : Op). op_name x ≡ name) (some_is other op same.1) same.0
   | inr later ↦ named_from name op ops later
 ]
 
-pub op_named_is : (name : List ℕ) (op : Op) → op_named name ≡ Some op → name_of op ≡ name
+pub op_named_is : (name : List ℕ) (op : Op) → op_named name ≡ Some op → op_name op ≡ name
 unfolding op_named
 op_named_is name op e = named_from name op all_ops e
 
-pub op_head_is : (op : Op) (h : Head) (w : List ℕ) → op_head op ≡ Some h → w ≡ name_of op → IsHead h w
+pub op_head_is : (op : Op) (h : Head) (w : List ℕ) → op_head op ≡ Some h → w ≡ op_name op → IsHead h w
 op_head_is Ldb h w e s = subst (λ (x : Head). IsHead x w) (some_is (heads.Load Ldb) h e) (refl, s)
 op_head_is Ldh h w e s = subst (λ (x : Head). IsHead x w) (some_is (heads.Load Ldh) h e) (refl, s)
 op_head_is Ldw h w e s = subst (λ (x : Head). IsHead x w) (some_is (heads.Load Ldw) h e) (refl, s)
@@ -125,11 +125,11 @@ label_split (c ∷ rest) long first last =
     let split : rest ≡ take (length rest - 1) rest ++ 58 ∷ [] = last_one rest (omega arith) ∙ ap (λ (n : ℕ). take (length rest - 1) rest ++ n ∷ []) at in
     ap (λ (n : ℕ). n ∷ rest) first ∙ ap (λ (t : List ℕ). 76 ∷ t) split ∙ ap (λ (n : ℕ). 76 ∷ (take n rest ++ 58 ∷ [])) (sym same)
 
-label_is : (w : List ℕ) (h : Head) → is_label_word w ≡ true → (number_of (take (length w - 2) (drop 1 w)) >>= λ n. Some (heads.Label n)) ≡ Some h → IsHead h w
+label_is : (w : List ℕ) (h : Head) → is_label_word w ≡ true → (word_number (take (length w - 2) (drop 1 w)) >>= λ n. Some (heads.Label n)) ≡ Some h → IsHead h w
 label_is w h t e =
     let long = and_parts (leb 2 (length w) && eqb (get_or w 0 0) 76) (eqb (get_or w (length w - 1) 0) 58) t in
     let first = and_parts (leb 2 (length w)) (eqb (get_or w 0 0) 76) long.0 in
-    let b = bind_some (number_of (take (length w - 2) (drop 1 w))) (λ n. Some (heads.Label n)) h e in
+    let b = bind_some (word_number (take (length w - 2) (drop 1 w))) (λ n. Some (heads.Label n)) h e in
     let text = number_of_is (take (length w - 2) (drop 1 w)) b.0 b.1 in
     let split = label_split w (leb-true _ _ first.0) (eqb-true _ _ first.1) (eqb-true _ _ long.1) in
     subst (λ (x : Head). IsHead x w) (some_is (heads.Label b.0) h b.2) (text.0, split ∙ ap (λ (t : List ℕ). 76 ∷ (t ++ 58 ∷ [])) text.1)
@@ -149,7 +149,7 @@ dotted_made name c h w e split =
     let o = bind_some (op_named name) (λ op. width_of c >>= λ width. Some (heads.Dotted op width)) h e in
     let d = bind_some (width_of c) (λ width. Some (heads.Dotted o.0 width)) h o.2 in
     let width = width_cases c d.0 (eqb c 48) (eqb c 49) (eqb c 50) (eqb c 52) refl refl refl refl d.1 in
-    let spelled : w ≡ dotted_word o.0 d.0 = split ∙ ap (λ (t : List ℕ). t ++ 46 ∷ c ∷ []) (sym (op_named_is name o.0 o.1)) ∙ sym (append_assoc (name_of o.0) (46 ∷ []) (c ∷ [])) ∙ ap (λ (n : ℕ). name_of o.0 ++ codes "." ++ n ∷ []) width.1 in
+    let spelled : w ≡ dotted_word o.0 d.0 = split ∙ ap (λ (t : List ℕ). t ++ 46 ∷ c ∷ []) (sym (op_named_is name o.0 o.1)) ∙ sym (append_assoc (op_name o.0) (46 ∷ []) (c ∷ [])) ∙ ap (λ (n : ℕ). op_name o.0 ++ codes "." ++ n ∷ []) width.1 in
     subst (λ (x : Head). IsHead x w) (some_is (heads.Dotted o.0 d.0) h d.2) (width.0, spelled)
 
 dotted_is : (w : List ℕ) (h : Head) → is_dotted_word w ≡ true → dotted_head (take (length w - 2) w) (get_or w (length w - 1) 0) ≡ Some h → IsHead h w
@@ -228,7 +228,7 @@ head_of-dotted Stdw width w = at_widths (λ (k : ℕ). head_of (dotted_word Stdw
 
 -- ---- the groups of opcodes
 
-pub head_of-load : (op : Op) → is_load op ≡ true → head_of (name_of op) ≡ Some (heads.Load op)
+pub head_of-load : (op : Op) → is_load op ≡ true → head_of (op_name op) ≡ Some (heads.Load op)
 unfolding head_of op_named
 head_of-load Ldb t = refl
 head_of-load Ldh t = refl
@@ -254,7 +254,7 @@ head_of-load Ext t = absurd cc
 head_of-load Lddw t = absurd cc
 head_of-load Stdw t = absurd cc
 
-pub head_of-arithmetic : (op : Op) → is_arithmetic op ≡ true → head_of (name_of op) ≡ Some (heads.Arithmetic op)
+pub head_of-arithmetic : (op : Op) → is_arithmetic op ≡ true → head_of (op_name op) ≡ Some (heads.Arithmetic op)
 unfolding head_of op_named
 head_of-arithmetic Ldb t = absurd cc
 head_of-arithmetic Ldh t = absurd cc
@@ -280,7 +280,7 @@ head_of-arithmetic Ext t = absurd cc
 head_of-arithmetic Lddw t = absurd cc
 head_of-arithmetic Stdw t = absurd cc
 
-pub head_of-signed : (op : Op) → is_signed op ≡ true → head_of (name_of op) ≡ Some (heads.Signed op)
+pub head_of-signed : (op : Op) → is_signed op ≡ true → head_of (op_name op) ≡ Some (heads.Signed op)
 unfolding head_of op_named
 head_of-signed Ldb t = absurd cc
 head_of-signed Ldh t = absurd cc
@@ -306,7 +306,7 @@ head_of-signed Ext t = absurd cc
 head_of-signed Lddw t = refl
 head_of-signed Stdw t = refl
 
-pub head_of-compare : (op : Op) → is_conditional op ≡ true → head_of (name_of op) ≡ Some (heads.Compare op)
+pub head_of-compare : (op : Op) → is_conditional op ≡ true → head_of (op_name op) ≡ Some (heads.Compare op)
 unfolding head_of op_named
 head_of-compare Ldb t = absurd cc
 head_of-compare Ldh t = absurd cc

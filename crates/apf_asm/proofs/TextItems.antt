@@ -14,7 +14,7 @@ use Rattle.apf_coding.specs.declared.instruction.Op.{Op}
 use Rattle.apf_coding.specs.declared.instruction.Op.TheVariants.{Ldb, Ldh, Ldw, Ldbx, Ldhx, Ldwx, Add, Mul, Div, And, Or, Sh, Li, Jmp, Jeq, Jne, Jgt, Jlt, Jset, Jnebs, Ext, Lddw, Stdw}
 use Rattle.apf_coding.specs.Instruction.{Instruction, is_conditional, is_counted, has_second}
 use Rattle.apf_coding.specs.Spelling.{IsWidth, IsWellFormed}
-use Rattle.apf_coding.specs.Names.{name_of}
+use Rattle.apf_coding.specs.Names.{op_name}
 use Rattle.apf_coding.specs.Reading.{◌>>=◌}
 use Rattle.apf_coding.proofs.Fields.{bind_some, some_is}
 use Rattle.apf_asm.specs.declared.item.Target.{Target}
@@ -23,11 +23,12 @@ use Rattle.apf_asm.specs.declared.item.Item.TheVariants as items
 use Rattle.apf_asm.specs.declared.text_head.Head.{Head}
 use Rattle.apf_asm.specs.declared.text_head.Head.TheVariants as heads
 use Rattle.apf_asm.specs.TextForms.{Form, Label, Load, Arithmetic, ArithmeticR1, Shift, ShiftR1, Signed, LoadSlot, StoreSlot, Complement, Negate, Swap, Move, Jump, Compare, CompareR1, CompareBytes, Dotted, Byte, register_word, target_word, hex_word, dotted_word, second_words, counted_words, words_of, item_of, plain, unsigned, signed, jump, given, is_load, is_arithmetic, is_signed, IsWord, IsTarget, IsAllowed, Denotes}
-use Rattle.apf_asm.specs.TextReading.{number_of, signed_of, register_of, target_of, hex_of, some_bytes, below, fitting, counted, none, one, two, three, two_or_three, load_read, arithmetic_read, shift_read, signed_read, slot_read, register_read, jump_read, compare_r1_read, compare_number_read, compare_read, byte_read, short_read, long_read, simple_read, counted_read, compare_bytes_read, item_read, op_named, other_head, head_of, words_answer}
+use Rattle.apf_asm.specs.TextReading.{word_number, signed_of, register_of, target_of, hex_of, some_bytes, below, fitting, counted_bytes, none, one, two, three, two_or_three, load_read, arithmetic_read, shift_read, signed_read, slot_read, register_read, jump_read, compare_r1_read, compare_number_read, compare_read, byte_read, short_read, long_read, simple_read, counted_read, compare_bytes_read, item_read, op_named, other_head, head_of, words_answer}
 use Rattle.plain_text.proofs.Numerals.{own}
 use Rattle.apf_asm.proofs.TextNumbers.{number_of_is, number_of-decimal}
 use Rattle.apf_asm.proofs.TextWords.{Hex, chosen, register_of_is, register_of-word, below_is, below-decimal, fitting_is, fitting-decimal, signed_of_is, signed_of-decimal, target_of_is, target_of-word, hex_of_is, hex_of-word, counted_is, counted-word, some_bytes_is, some_bytes-some}
 use Rattle.apf_asm.proofs.TextHeads.{IsHead, head_of-label, head_of-dotted, head_of-load, head_of-arithmetic, head_of-signed, head_of-compare}
+use Rattle.apf_asm.specs.Items.{bytes_limit}
 
 -- ---- operands by their number
 
@@ -78,24 +79,24 @@ denoted f words item allowed e i = record { form = f; allowed = allowed; words_a
 
 -- ---- what is read is of a form
 
-load_is : (op : Op) (w : List ℕ) (ops : List (List ℕ)) (item : Item) → is_load op ≡ true → w ≡ name_of op → two ops (load_read op) ≡ Some item → Denotes (w ∷ ops) item
+load_is : (op : Op) (w : List ℕ) (ops : List (List ℕ)) (item : Item) → is_load op ≡ true → w ≡ op_name op → two ops (load_read op) ≡ Some item → Denotes (w ∷ ops) item
 load_is op w ops item t s e =
     let o = two_is ops (load_read op) item e in
-    let r = bind_some (register_of o.0) (λ reg. number_of o.1 >>= λ number. Some (unsigned op reg number)) item o.3 in
-    let n = bind_some (number_of o.1) (λ number. Some (unsigned op r.0 number)) item r.2 in
+    let r = bind_some (register_of o.0) (λ reg. word_number o.1 >>= λ number. Some (unsigned op reg number)) item o.3 in
+    let n = bind_some (word_number o.1) (λ number. Some (unsigned op r.0 number)) item r.2 in
     let reg = register_of_is o.0 r.0 r.1 in
     let number = number_of_is o.1 n.0 n.1 in
-    denoted (Load op r.0 n.0) (w ∷ ops) item (t, reg.0, number.0) (three_words w (name_of op) o.0 (register_word r.0) o.1 (decimal n.0) ops s o.2 reg.1 number.1) n.2
+    denoted (Load op r.0 n.0) (w ∷ ops) item (t, reg.0, number.0) (three_words w (op_name op) o.0 (register_word r.0) o.1 (decimal n.0) ops s o.2 reg.1 number.1) n.2
 
-arithmetic_is : (op : Op) (w : List ℕ) (ops : List (List ℕ)) (item : Item) → is_arithmetic op ≡ true → w ≡ name_of op → one ops (arithmetic_read op) ≡ Some item → Denotes (w ∷ ops) item
+arithmetic_is : (op : Op) (w : List ℕ) (ops : List (List ℕ)) (item : Item) → is_arithmetic op ≡ true → w ≡ op_name op → one ops (arithmetic_read op) ≡ Some item → Denotes (w ∷ ops) item
 arithmetic_is op w ops item t s e =
     let o = one_is ops (arithmetic_read op) item e in
-    elim (chosen o.0 (codes "r1") (bytes_eq o.0 (codes "r1")) (Some (plain op 1 0 0)) (number_of o.0 >>= λ number. Some (unsigned op 0 number)) item refl o.2) [
-      | inl r1 ↦ denoted (ArithmeticR1 op) (w ∷ ops) item t (two_words w (name_of op) o.0 (register_word 1) ops s o.1 r1.0) r1.1
+    elim (chosen o.0 (codes "r1") (bytes_eq o.0 (codes "r1")) (Some (plain op 1 0 0)) (word_number o.0 >>= λ number. Some (unsigned op 0 number)) item refl o.2) [
+      | inl r1 ↦ denoted (ArithmeticR1 op) (w ∷ ops) item t (two_words w (op_name op) o.0 (register_word 1) ops s o.1 r1.0) r1.1
       | inr plain_number ↦
-          let n = bind_some (number_of o.0) (λ number. Some (unsigned op 0 number)) item plain_number in
+          let n = bind_some (word_number o.0) (λ number. Some (unsigned op 0 number)) item plain_number in
           let number = number_of_is o.0 n.0 n.1 in
-          denoted (Arithmetic op n.0) (w ∷ ops) item (t, number.0) (two_words w (name_of op) o.0 (decimal n.0) ops s o.1 number.1) n.2
+          denoted (Arithmetic op n.0) (w ∷ ops) item (t, number.0) (two_words w (op_name op) o.0 (decimal n.0) ops s o.1 number.1) n.2
     ]
 
 shift_is : (w : List ℕ) (ops : List (List ℕ)) (item : Item) → w ≡ codes "sh" → one ops shift_read ≡ Some item → Denotes (w ∷ ops) item
@@ -109,14 +110,14 @@ shift_is w ops item s e =
           denoted (Shift n.0) (w ∷ ops) item number.0 (two_words w (codes "sh") o.0 (signed_decimal n.0) ops s o.1 number.1) n.2
     ]
 
-signed_is : (op : Op) (w : List ℕ) (ops : List (List ℕ)) (item : Item) → is_signed op ≡ true → w ≡ name_of op → two ops (signed_read op) ≡ Some item → Denotes (w ∷ ops) item
+signed_is : (op : Op) (w : List ℕ) (ops : List (List ℕ)) (item : Item) → is_signed op ≡ true → w ≡ op_name op → two ops (signed_read op) ≡ Some item → Denotes (w ∷ ops) item
 signed_is op w ops item t s e =
     let o = two_is ops (signed_read op) item e in
     let r = bind_some (register_of o.0) (λ reg. signed_of o.1 >>= λ number. Some (signed op reg number)) item o.3 in
     let n = bind_some (signed_of o.1) (λ number. Some (signed op r.0 number)) item r.2 in
     let reg = register_of_is o.0 r.0 r.1 in
     let number = signed_of_is o.1 n.0 n.1 in
-    denoted (Signed op r.0 n.0) (w ∷ ops) item (t, reg.0, number.0) (three_words w (name_of op) o.0 (register_word r.0) o.1 (signed_decimal n.0) ops s o.2 reg.1 number.1) n.2
+    denoted (Signed op r.0 n.0) (w ∷ ops) item (t, reg.0, number.0) (three_words w (op_name op) o.0 (register_word r.0) o.1 (signed_decimal n.0) ops s o.2 reg.1 number.1) n.2
 
 slot_is : (base : ℕ) (w : List ℕ) (ops : List (List ℕ)) (item : Item) → ((base ≡ 0) × (w ≡ codes "ldm")) ⊎ ((base ≡ 16) × (w ≡ codes "stm")) → two ops (slot_read base) ≡ Some item → Denotes (w ∷ ops) item
 slot_is base w ops item which e =
@@ -152,20 +153,20 @@ jump_is w ops item s e =
     let to = target_of_is o.0 t.0 t.1 in
     denoted (Jump t.0) (w ∷ ops) item to.0 (two_words w (codes "jmp") o.0 (target_word t.0) ops s o.1 to.1) t.2
 
-compare_is : (op : Op) (w : List ℕ) (ops : List (List ℕ)) (item : Item) → is_conditional op ≡ true → w ≡ name_of op → two ops (compare_read op) ≡ Some item → Denotes (w ∷ ops) item
+compare_is : (op : Op) (w : List ℕ) (ops : List (List ℕ)) (item : Item) → is_conditional op ≡ true → w ≡ op_name op → two ops (compare_read op) ≡ Some item → Denotes (w ∷ ops) item
 compare_is op w ops item c s e =
     let o = two_is ops (compare_read op) item e in
     elim (chosen o.0 (codes "r1") (bytes_eq o.0 (codes "r1")) (compare_r1_read op o.1) (compare_number_read op o.0 o.1) item refl o.3) [
       | inl r1 ↦
           let t = bind_some (target_of o.1) (λ to. Some (jump op 1 0 [] to)) item r1.1 in
           let to = target_of_is o.1 t.0 t.1 in
-          denoted (CompareR1 op t.0) (w ∷ ops) item (c, to.0) (three_words w (name_of op) o.0 (register_word 1) o.1 (target_word t.0) ops s o.2 r1.0 to.1) t.2
+          denoted (CompareR1 op t.0) (w ∷ ops) item (c, to.0) (three_words w (op_name op) o.0 (register_word 1) o.1 (target_word t.0) ops s o.2 r1.0 to.1) t.2
       | inr plain_number ↦
-          let n = bind_some (number_of o.0) (λ number. target_of o.1 >>= λ to. Some (jump op 0 number [] to)) item plain_number in
+          let n = bind_some (word_number o.0) (λ number. target_of o.1 >>= λ to. Some (jump op 0 number [] to)) item plain_number in
           let t = bind_some (target_of o.1) (λ to. Some (jump op 0 n.0 [] to)) item n.2 in
           let number = number_of_is o.0 n.0 n.1 in
           let to = target_of_is o.1 t.0 t.1 in
-          denoted (Compare op n.0 t.0) (w ∷ ops) item (c, number.0, to.0) (three_words w (name_of op) o.0 (decimal n.0) o.1 (target_word t.0) ops s o.2 number.1 to.1) t.2
+          denoted (Compare op n.0 t.0) (w ∷ ops) item (c, number.0, to.0) (three_words w (op_name op) o.0 (decimal n.0) o.1 (target_word t.0) ops s o.2 number.1 to.1) t.2
     ]
 
 compare_bytes_is : (w : List ℕ) (ops : List (List ℕ)) (item : Item) → w ≡ codes "jnebs" → two ops compare_bytes_read ≡ Some item → Denotes (w ∷ ops) item
@@ -278,7 +279,7 @@ short_is op width w a b ops item fits counts s o e =
     let zero_fits = one_fits width fits in
     let i : Instruction = record { op = op; reg = r.0; width = width; imm = n.0; second = 0; bytes = [] } in
     let good : IsWellFormed i = record { reg = reg.0; width = fits; imm = number.0; second = zero_fits; no_second = λ h. refl; bytes = zero_fits; no_bytes = λ h. refl } in
-    let small : length i.bytes ≤ 65535 = omega arith in
+    let small : length i.bytes ≤ bytes_limit = omega arith in
     denoted (Dotted i) (w ∷ ops) item (good, (λ k. omega arith), small) (short_words op r.0 width n.0 w a b ops s o reg.1 number.1 u.0 counts) u.1
 
 long_is : (op : Op) (width : ℕ) (w a b c : List ℕ) (ops : List (List ℕ)) (item : Item) → IsWidth width → is_counted op ≡ false → w ≡ dotted_word op width → ops ≡ a ∷ b ∷ c ∷ [] → long_read op width a b c ≡ Some item → Denotes (w ∷ ops) item
@@ -294,16 +295,16 @@ long_is op width w a b c ops item fits counts s o e =
     let zero_fits = one_fits width fits in
     let i : Instruction = record { op = op; reg = r.0; width = width; imm = n.0; second = m.0; bytes = [] } in
     let good : IsWellFormed i = record { reg = reg.0; width = fits; imm = number.0; second = second.0; no_second = λ h. absurd {A = m.0 ≡ 0} cc; bytes = zero_fits; no_bytes = λ h. refl } in
-    let small : length i.bytes ≤ 65535 = omega arith in
+    let small : length i.bytes ≤ bytes_limit = omega arith in
     denoted (Dotted i) (w ∷ ops) item (good, (λ k. omega arith), small) (long_words op r.0 width n.0 m.0 w a b c ops s o reg.1 number.1 second.1 u.0 counts) u.1
 
 counted_is_form : (width : ℕ) (w : List ℕ) (ops : List (List ℕ)) (item : Item) → IsWidth width → w ≡ dotted_word Jnebs width → three ops (counted_read width) ≡ Some item → Denotes (w ∷ ops) item
 counted_is_form width w ops item fits s e =
     let full : ℕ → ℕ → List ℕ → Item = λ reg imm bytes. given (record { op = Jnebs; reg = reg; width = width; imm = imm; second = 0; bytes = bytes }) in
     let o = three_is ops (counted_read width) item e in
-    let r = bind_some (register_of o.0) (λ reg. fitting width o.1 >>= λ imm. counted width o.2 >>= λ bytes. Some (full reg imm bytes)) item o.4 in
-    let n = bind_some (fitting width o.1) (λ imm. counted width o.2 >>= λ bytes. Some (full r.0 imm bytes)) item r.2 in
-    let x = bind_some (counted width o.2) (λ bytes. Some (full r.0 n.0 bytes)) item n.2 in
+    let r = bind_some (register_of o.0) (λ reg. fitting width o.1 >>= λ imm. counted_bytes width o.2 >>= λ bytes. Some (full reg imm bytes)) item o.4 in
+    let n = bind_some (fitting width o.1) (λ imm. counted_bytes width o.2 >>= λ bytes. Some (full r.0 imm bytes)) item r.2 in
+    let x = bind_some (counted_bytes width o.2) (λ bytes. Some (full r.0 n.0 bytes)) item n.2 in
     let reg = register_of_is o.0 r.0 r.1 in
     let number = fitting_is width o.1 n.0 fits n.1 in
     let bytes = counted_is width o.2 x.0 fits x.1 in
@@ -395,7 +396,7 @@ compare_again op n to small fits = rw (no_register n small, number_of-decimal n 
 compare_r1_again : (op : Op) (to : Target) → IsTarget to → compare_r1_read op (target_word to) ≡ Some (jump op 1 0 [] to)
 compare_r1_again op to fits = rw (target_of-word to fits) refl
 
-compare_bytes_again : (bytes : List ℕ) (to : Target) → IsBytes bytes → 0 < length bytes → length bytes ≤ 65535 → IsTarget to → compare_bytes_read (hex_word bytes) (target_word to) ≡ Some (jump Jnebs 0 0 bytes to)
+compare_bytes_again : (bytes : List ℕ) (to : Target) → IsBytes bytes → 0 < length bytes → length bytes ≤ bytes_limit → IsTarget to → compare_bytes_read (hex_word bytes) (target_word to) ≡ Some (jump Jnebs 0 0 bytes to)
 compare_bytes_again bytes to fits some long t = rw (target_of-word to t, hex_of-word bytes fits long, some_bytes-some bytes some) refl
 
 byte_again : (b : ℕ) → b < 256 → byte_read (decimal b) ≡ Some (items.Byte b)
@@ -426,7 +427,7 @@ plain_again i good counts =
     ∙ ap (λ (b : Bool). two_or_three (register_word i.reg ∷ decimal i.imm ∷ second_words i ++ cond b (hex_word i.bytes ∷ []) []) (short_read i.op i.width) (long_read i.op i.width)) counts
     ∙ tail_again i.op i.reg i.width i.imm i.second i.bytes (has_second i.op i.reg) refl good.reg good.width good.imm good.second good.no_second (good.no_bytes counts)
 
-bytes_again : (reg width imm second : ℕ) (bytes : List ℕ) → reg < 2 → IsWidth width → imm < 256 ^ width → second ≡ 0 → length bytes < 256 ^ width → IsBytes bytes → length bytes ≤ 65535
+bytes_again : (reg width imm second : ℕ) (bytes : List ℕ) → reg < 2 → IsWidth width → imm < 256 ^ width → second ≡ 0 → length bytes < 256 ^ width → IsBytes bytes → length bytes ≤ bytes_limit
     → three (register_word reg ∷ decimal imm ∷ hex_word bytes ∷ []) (counted_read width) ≡ Some (given (record { op = Jnebs; reg = reg; width = width; imm = imm; second = second; bytes = bytes }))
 bytes_again reg width imm second bytes bit fits i none short all long = rw (register_of-word reg bit, fitting_again width imm fits i, counted-word width bytes fits all long short, none) refl
 
@@ -472,12 +473,12 @@ named_heads = (refl, refl, refl, refl, refl, refl, refl, refl, refl, refl)
 pub form_again : (f : Form) → IsAllowed f → words_answer (words_of f) ≡ Ok (Some (item_of f))
 unfolding item_read simple_read
 form_again (Label n) a = answered (codes "L" ++ decimal n ++ codes ":") [] (heads.Label n) (items.Label n) (head_of-label n a) refl
-form_again (Load op reg n) a = answered (name_of op) (register_word reg ∷ decimal n ∷ []) (heads.Load op) (unsigned op reg n) (head_of-load op a.0) (load_again op reg n a.1 a.2)
-form_again (Arithmetic op n) a = answered (name_of op) (decimal n ∷ []) (heads.Arithmetic op) (unsigned op 0 n) (head_of-arithmetic op a.0) (arithmetic_again op n a.1)
-form_again (ArithmeticR1 op) a = answered (name_of op) (register_word 1 ∷ []) (heads.Arithmetic op) (plain op 1 0 0) (head_of-arithmetic op a) refl
+form_again (Load op reg n) a = answered (op_name op) (register_word reg ∷ decimal n ∷ []) (heads.Load op) (unsigned op reg n) (head_of-load op a.0) (load_again op reg n a.1 a.2)
+form_again (Arithmetic op n) a = answered (op_name op) (decimal n ∷ []) (heads.Arithmetic op) (unsigned op 0 n) (head_of-arithmetic op a.0) (arithmetic_again op n a.1)
+form_again (ArithmeticR1 op) a = answered (op_name op) (register_word 1 ∷ []) (heads.Arithmetic op) (plain op 1 0 0) (head_of-arithmetic op a) refl
 form_again (Shift z) a = answered (codes "sh") (signed_decimal z ∷ []) heads.Shift (signed Sh 0 z) named_heads.0 (shift_again z a)
 form_again ShiftR1 a = answered (codes "sh") (register_word 1 ∷ []) heads.Shift (plain Sh 1 0 0) named_heads.0 refl
-form_again (Signed op reg z) a = answered (name_of op) (register_word reg ∷ signed_decimal z ∷ []) (heads.Signed op) (signed op reg z) (head_of-signed op a.0) (signed_again op reg z a.1 a.2)
+form_again (Signed op reg z) a = answered (op_name op) (register_word reg ∷ signed_decimal z ∷ []) (heads.Signed op) (signed op reg z) (head_of-signed op a.0) (signed_again op reg z a.1 a.2)
 form_again (LoadSlot reg slot) a = answered (codes "ldm") (register_word reg ∷ decimal slot ∷ []) (heads.Slot 0) (unsigned Ext reg slot) named_heads.1 (slot_again 0 reg slot a.0 a.1 ∙ ap (λ (k : ℕ). Some (unsigned Ext reg k)) (zero-add slot))
 form_again (StoreSlot reg slot) a = answered (codes "stm") (register_word reg ∷ decimal slot ∷ []) (heads.Slot 16) (unsigned Ext reg (16 + slot)) named_heads.2 (slot_again 16 reg slot a.0 a.1)
 form_again (Complement reg) a = answered (codes "not") (register_word reg ∷ []) (heads.Register 32) (unsigned Ext reg 32) named_heads.3 (register_again 32 reg a)
@@ -485,8 +486,8 @@ form_again (Negate reg) a = answered (codes "neg") (register_word reg ∷ []) (h
 form_again Swap a = answered (codes "swap") [] heads.Swap (unsigned Ext 0 34) named_heads.5 refl
 form_again (Move reg) a = answered (codes "move") (register_word reg ∷ []) (heads.Register 35) (unsigned Ext reg 35) named_heads.6 (register_again 35 reg a)
 form_again (Jump to) a = answered (codes "jmp") (target_word to ∷ []) heads.Jump (jump Jmp 0 0 [] to) named_heads.7 (jump_again to a)
-form_again (Compare op n to) a = answered (name_of op) (decimal n ∷ target_word to ∷ []) (heads.Compare op) (jump op 0 n [] to) (head_of-compare op a.0) (compare_again op n to a.1 a.2)
-form_again (CompareR1 op to) a = answered (name_of op) (register_word 1 ∷ target_word to ∷ []) (heads.Compare op) (jump op 1 0 [] to) (head_of-compare op a.0) (compare_r1_again op to a.1)
+form_again (Compare op n to) a = answered (op_name op) (decimal n ∷ target_word to ∷ []) (heads.Compare op) (jump op 0 n [] to) (head_of-compare op a.0) (compare_again op n to a.1 a.2)
+form_again (CompareR1 op to) a = answered (op_name op) (register_word 1 ∷ target_word to ∷ []) (heads.Compare op) (jump op 1 0 [] to) (head_of-compare op a.0) (compare_r1_again op to a.1)
 form_again (CompareBytes bytes to) a = answered (codes "jnebs") (hex_word bytes ∷ target_word to ∷ []) heads.CompareBytes (jump Jnebs 0 0 bytes to) named_heads.8 (compare_bytes_again bytes to a.0 a.1 a.2 a.3)
 form_again (Dotted i) a = answered (dotted_word i.op i.width) (register_word i.reg ∷ decimal i.imm ∷ second_words i ++ counted_words i) (heads.Dotted i.op i.width) (given i) (head_of-dotted i.op i.width a.0.width) (dotted_again i.op i.reg i.width i.imm i.second i.bytes (is_counted i.op) refl a)
 form_again (Byte b) a = answered (codes ".byte") (decimal b ∷ []) heads.Byte (items.Byte b) named_heads.9 (byte_again b a)

@@ -4,7 +4,7 @@ use Rattle.std.specs.Prelude.{◌↔◌}
 use Rattle.apf_coding.specs.declared.instruction.Op.{Op}
 use Rattle.apf_coding.specs.declared.instruction.Op.TheVariants.{Ldb, Ldh, Ldw, Ldbx, Ldhx, Ldwx, Add, Mul, Div, And, Or, Sh, Li, Jmp, Jeq, Jne, Jgt, Jlt, Jset, Jnebs, Ext, Lddw, Stdw}
 use Rattle.apf_coding.specs.Instruction.{is_conditional}
-use Rattle.apf_coding.specs.Names.{name_of}
+use Rattle.apf_coding.specs.Names.{op_name}
 use Rattle.apf_asm.specs.declared.text_head.Head.{Head}
 use Rattle.apf_asm.specs.declared.text_head.Head.TheVariants as heads
 use Rattle.apf_asm.specs.TextForms.{IsKnown, is_load, is_arithmetic, is_signed}
@@ -16,7 +16,7 @@ use Rattle.apf_asm.proofs.TextLaws.{known_from, known_head}
 abbrev IsListed : List ℕ → Type 0
 IsListed word = IsName word ⊎ (IsLabel word ⊎ IsDotted word)
 
-by_op : (word : List ℕ) (op : Op) → op ≢ Ext → word ≡ name_of op → IsListed word
+by_op : (word : List ℕ) (op : Op) → op ≢ Ext → word ≡ op_name op → IsListed word
 by_op word op ne s = inl (inl (op, ne, s))
 
 by_other : (word : List ℕ) (k : ℕ) → k < 7 → word ≡ get_or other_names k word → IsListed word

@@ -16,11 +16,11 @@ use Rattle.apf_asm.specs.declared.text_error.TextError.{TextError}
 use Rattle.apf_asm.specs.declared.text_error.TextError.TheVariants.{Bad, OutOfMemory}
 use Rattle.apf_asm.specs.declared.text_head.Head.{Head}
 use Rattle.apf_asm.specs.declared.text_head.Head.TheVariants as heads
-use Rattle.apf_asm.specs.TextAnswers.{Tells}
+use Rattle.apf_asm.specs.TextAnswers.{AnswersAs}
 use Rattle.apf_asm.specs.TextForms.{Form, Label, Load, ArithmeticR1, ShiftR1, Signed, LoadSlot, StoreSlot, Complement, Negate, Swap, Move, Jump, CompareR1, CompareBytes, Dotted, Byte, words_of, item_of, IsAllowed, Denotes, IsKnown}
 use Rattle.plain_text.specs.Lines.{lines_of}
-use Rattle.apf_asm.specs.TextLines.{is_printable, words_in, Stands, IsRead, AreRefused, IsRefused, AreRead, Reads, Refuses}
-use Rattle.apf_asm.specs.TextReading.{head_of, item_read, operand_answer, head_answer, words_answer, line_answer, with_front, goes_on, lines_answer, text_answer}
+use Rattle.apf_asm.specs.TextLines.{is_printable, words_in, Stands, IsRead, AreRefused, IsRefused, AreRead, TextReads, TextRefuses}
+use Rattle.apf_asm.specs.TextReading.{head_of, item_read, operand_answer, head_answer, words_answer, line_answer, with_items, goes_on, lines_answer, text_answer}
 use Rattle.apf_asm.proofs.TextHeads.{IsHead, head_of_is}
 use Rattle.apf_asm.proofs.TextItems.{item_is, form_again, one_fits}
 
@@ -180,7 +180,7 @@ line_refused_again line kinds.Operand r = rw (list_all-from_AllPass is_printable
 
 -- ---- texts
 
-front_ok : (front items : List Item) (later : Result (List Item) TextError) → with_front front later ≡ Ok items → (rest : List Item) × (later ≡ Ok rest) × (items ≡ front ++ rest)
+front_ok : (front items : List Item) (later : Result (List Item) TextError) → with_items front later ≡ Ok items → (rest : List Item) × (later ≡ Ok rest) × (items ≡ front ++ rest)
 front_ok front items (Ok rest) e = (rest, refl, sym (ok_is (front ++ rest) items e))
 front_ok front items (Err x) e = absurd cc
 
@@ -213,7 +213,7 @@ pub record Stops (lines : List (List ℕ)) (from number : ℕ) (kind : TextKind)
   pub refused : IsRefused line kind
   pub number_is : number ≡ length before + from
 
-front_err : (front : List Item) (later : Result (List Item) TextError) (e : TextError) → with_front front later ≡ Err e → later ≡ Err e
+front_err : (front : List Item) (later : Result (List Item) TextError) (e : TextError) → with_items front later ≡ Err e → later ≡ Err e
 front_err front (Ok rest) e p = absurd cc
 front_err front (Err x) e p = p
 
@@ -265,18 +265,18 @@ lines_stop_again from (first ∷ before) line after items kind read refused =
 
 -- ---- a text
 
-pub text_read : (text : List ℕ) (items : List Item) → text_answer text ≡ Ok items → Reads text items
+pub text_read : (text : List ℕ) (items : List Item) → text_answer text ≡ Ok items → TextReads text items
 text_read text items e = lines_read 1 (lines_of text) items e
 
-pub text_again : (text : List ℕ) (items : List Item) → Reads text items → text_answer text ≡ Ok items
+pub text_again : (text : List ℕ) (items : List Item) → TextReads text items → text_answer text ≡ Ok items
 text_again text items r = lines_again 1 (lines_of text) items r
 
-pub text_refused : (text : List ℕ) (number : ℕ) (kind : TextKind) → text_answer text ≡ Err (Bad number kind) → Refuses text number kind
+pub text_refused : (text : List ℕ) (number : ℕ) (kind : TextKind) → text_answer text ≡ Err (Bad number kind) → TextRefuses text number kind
 text_refused text number kind e =
     let s = lines_stop 1 (lines_of text) number kind e in
     record { before = s.before; line = s.line; after = s.after; lines_are = s.lines_are; items = s.items; read = s.read; refused = s.refused; number_is = s.number_is }
 
-pub text_refused_again : (text : List ℕ) (number : ℕ) (kind : TextKind) → Refuses text number kind → text_answer text ≡ Err (Bad number kind)
+pub text_refused_again : (text : List ℕ) (number : ℕ) (kind : TextKind) → TextRefuses text number kind → text_answer text ≡ Err (Bad number kind)
 text_refused_again text number kind r =
     ap (lines_answer 1) r.lines_are ∙ lines_stop_again 1 r.before r.line r.after r.items kind r.read r.refused ∙ ap (λ (n : ℕ). Err (Bad n kind)) (sym r.number_is)
 
@@ -285,15 +285,15 @@ text_refused_again text number kind r =
 items_are : (a b : List Item) (r : Result (List Item) TextError) → r ≡ Ok a → r ≡ Ok b → a ≡ b
 items_are a b r p q = ok_is a b (sym p ∙ q)
 
-pub one_reading : (text : List ℕ) (a b : List Item) → Reads text a → Reads text b → a ≡ b
+pub one_reading : (text : List ℕ) (a b : List Item) → TextReads text a → TextReads text b → a ≡ b
 one_reading text a b p q = items_are a b (text_answer text) (text_again text a p) (text_again text b q)
 
-pub one_refusal : (text : List ℕ) (m n : ℕ) (j k : TextKind) → Refuses text m j → Refuses text n k → (m ≡ n) × (j ≡ k)
+pub one_refusal : (text : List ℕ) (m n : ℕ) (j k : TextKind) → TextRefuses text m j → TextRefuses text n k → (m ≡ n) × (j ≡ k)
 one_refusal text m n j k p q =
     let e = err_is (Bad m j) (Bad n k) (sym (text_refused_again text m j p) ∙ text_refused_again text n k q) in
     (bad_number m n j k e, bad_kind m n j k e)
 
-pub not_both : (text : List ℕ) (items : List Item) (line : ℕ) (kind : TextKind) → Reads text items → Refuses text line kind → ⊥
+pub not_both : (text : List ℕ) (items : List Item) (line : ℕ) (kind : TextKind) → TextReads text items → TextRefuses text line kind → ⊥
 not_both text items line kind p q = let a = text_again text items p in let b = text_refused_again text line kind q in absurd cc
 
 pub one_item : (words : List (List ℕ)) (a b : Item) → Denotes words a → Denotes words b → a ≡ b
@@ -309,31 +309,31 @@ unfolding lines_answer
 lines_no_memory number [] e = absurd cc
 lines_no_memory number (line ∷ lines) e = no_memory (line_answer line) number (lines_answer (number + 1) lines) (lines_no_memory (number + 1) lines) e
 
-either_cases : (text : List ℕ) (answer : Result (List Item) TextError) → text_answer text ≡ answer → ((items : List Item) × Reads text items) ⊎ ((line : ℕ) × (kind : TextKind) × Refuses text line kind)
+either_cases : (text : List ℕ) (answer : Result (List Item) TextError) → text_answer text ≡ answer → ((items : List Item) × TextReads text items) ⊎ ((line : ℕ) × (kind : TextKind) × TextRefuses text line kind)
 either_cases text (Ok items) e = inl (items, text_read text items e)
 either_cases text (Err (Bad line kind)) e = inr (line, kind, text_refused text line kind e)
 either_cases text (Err OutOfMemory) e = absurd (lines_no_memory 1 (lines_of text) e)
 
-pub either : (text : List ℕ) → ((items : List Item) × Reads text items) ⊎ ((line : ℕ) × (kind : TextKind) × Refuses text line kind)
+pub either : (text : List ℕ) → ((items : List Item) × TextReads text items) ⊎ ((line : ℕ) × (kind : TextKind) × TextRefuses text line kind)
 either text = either_cases text (text_answer text) refl
 
 -- ---- what a call answers
 
-pub told_only : (r answer : Result (List Item) TextError) (items : List Item) → Tells r answer → answer ≡ Ok items → (r ≡ Ok items) ⊎ (r ≡ Err OutOfMemory)
+pub told_only : (r answer : Result (List Item) TextError) (items : List Item) → AnswersAs r answer → answer ≡ Ok items → (r ≡ Ok items) ⊎ (r ≡ Err OutOfMemory)
 told_only (Ok found) answer items t e = inl (ap Ok (ok_is found items (sym t ∙ e)))
 told_only (Err (Bad line kind)) answer items t e = absurd cc
 told_only (Err OutOfMemory) answer items t e = inr refl
 
-pub told_refused : (r answer : Result (List Item) TextError) (line : ℕ) (kind : TextKind) → Tells r answer → answer ≡ Err (Bad line kind) → (r ≡ Err (Bad line kind)) ⊎ (r ≡ Err OutOfMemory)
+pub told_refused : (r answer : Result (List Item) TextError) (line : ℕ) (kind : TextKind) → AnswersAs r answer → answer ≡ Err (Bad line kind) → (r ≡ Err (Bad line kind)) ⊎ (r ≡ Err OutOfMemory)
 told_refused (Ok found) answer line kind t e = absurd cc
 told_refused (Err (Bad other cause)) answer line kind t e = inl (sym t ∙ e)
 told_refused (Err OutOfMemory) answer line kind t e = inr refl
 
-pub told_named : (r answer : Result (List Item) TextError) (line : ℕ) (kind : TextKind) → Tells r answer → r ≡ Err (Bad line kind) → answer ≡ Err (Bad line kind)
+pub told_named : (r answer : Result (List Item) TextError) (line : ℕ) (kind : TextKind) → AnswersAs r answer → r ≡ Err (Bad line kind) → answer ≡ Err (Bad line kind)
 told_named (Ok found) answer line kind t e = absurd cc
 told_named (Err (Bad other cause)) answer line kind t e = t ∙ e
 told_named (Err OutOfMemory) answer line kind t e = absurd cc
 
-pub told_found : (r answer : Result (List Item) TextError) (P : List Item → Type 0) → Tells r answer → ((items : List Item) → answer ≡ Ok items → P items) → IfOk r P
+pub told_found : (r answer : Result (List Item) TextError) (P : List Item → Type 0) → AnswersAs r answer → ((items : List Item) → answer ≡ Ok items → P items) → IfOk r P
 told_found (Ok found) answer P t more = more found t
 told_found (Err e) answer P t more = tt

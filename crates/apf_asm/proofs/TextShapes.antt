@@ -15,10 +15,10 @@ use Rattle.apf_coding.specs.Jumps.{is_jump}
 use Rattle.apf_coding.proofs.Widths.{least-width, wider}
 use Rattle.apf_asm.specs.declared.item.Target.{Target}
 use Rattle.apf_asm.specs.declared.item.Item.{Item}
-use Rattle.apf_asm.specs.Items.{IsItemForm}
+use Rattle.apf_asm.specs.Items.{IsItemForm, bytes_limit}
 use Rattle.apf_asm.specs.TextForms.{Form, Label, Load, Arithmetic, ArithmeticR1, Shift, ShiftR1, Signed, LoadSlot, StoreSlot, Complement, Negate, Swap, Move, Jump, Compare, CompareR1, CompareBytes, Dotted, Byte, item_of, immediate, plain, unsigned, signed, jump, IsWord, IsAllowed, Denotes}
 use Rattle.plain_text.specs.Lines.{lines_of}
-use Rattle.apf_asm.specs.TextLines.{Stands, AreRead, Reads}
+use Rattle.apf_asm.specs.TextLines.{Stands, AreRead, TextReads}
 use Rattle.apf_asm.proofs.TextItems.{one_fits}
 use Rattle.plain_text.proofs.LineCounts as line_counts
 
@@ -106,7 +106,7 @@ compare_r1_form op to c =
     both : {b : Bool} → b ≡ true → b ≡ false → ⊥
     both p q = let e : true ≡ false = sym p ∙ q in absurd cc
 
-bytes_form : (bytes : List ℕ) (to : Target) → ((k : ℕ) → slice_index bytes k < 256) → 0 < length bytes → length bytes ≤ 65535 → IsItemForm (jump Jnebs 0 0 bytes to)
+bytes_form : (bytes : List ℕ) (to : Target) → ((k : ℕ) → slice_index bytes k < 256) → 0 < length bytes → length bytes ≤ bytes_limit → IsItemForm (jump Jnebs 0 0 bytes to)
 bytes_form bytes to each some long = record { op = refl; reg = omega arith; no_reg = λ h. refl; second = omega arith; no_second = λ h. refl; no_bytes = λ h. absurd cc; some_bytes = λ h. some; each_a_byte = each; short = long }
 
 -- ---- every form
@@ -146,7 +146,7 @@ lines_shape [] items r = subst (λ (is : List Item). All IsItemForm is) (sym r) 
 lines_shape (line ∷ lines) items r =
     subst (λ (is : List Item). All IsItemForm is) (sym r.4) (All-append IsItemForm (option_to_list r.0) r.1 (found_shape _ r.0 r.2.stands) (lines_shape lines r.1 r.3))
 
-pub text_shape : (text : List ℕ) (items : List Item) → Reads text items → All IsItemForm items
+pub text_shape : (text : List ℕ) (items : List Item) → TextReads text items → All IsItemForm items
 text_shape text items r = lines_shape (lines_of text) items r
 
 found_few : (found : Option Item) → length (option_to_list found) ≤ 1
@@ -160,5 +160,5 @@ lines_few (line ∷ lines) items r =
     let more = lines_few lines r.1 r.3 in
     omega (arith, ap length r.4, length-append (option_to_list r.0) r.1)
 
-pub text_few : (text : List ℕ) (items : List Item) → Reads text items → length items ≤ length text
+pub text_few : (text : List ℕ) (items : List Item) → TextReads text items → length items ≤ length text
 text_few text items r = let a = lines_few (lines_of text) items r in let b = line_counts.lines_few text in omega arith

@@ -20,9 +20,10 @@ use Rattle.plain_text.proofs.Words.{equal_words}
 use Rattle.apf_asm.specs.declared.item.Target.{Target}
 use Rattle.apf_asm.specs.declared.item.Target.TheVariants as targets
 use Rattle.apf_asm.specs.TextForms.{register_word, target_word, hex_word, IsTarget}
-use Rattle.apf_asm.specs.TextReading.{number_of, word_below, negative, positive, signed_of, register_of, target_of, is_upper, few, bytes_of, hex_of, below, fitting, counted, some_bytes}
+use Rattle.apf_asm.specs.TextReading.{word_number, word_below, negative, positive, signed_of, register_of, target_of, is_upper, few, bytes_of, hex_of, below, fitting, counted_bytes, some_bytes}
 use Rattle.apf_asm.proofs.TextNumbers.{number_of_is, number_of-decimal, word_below_is, word_below-lt}
 use Rattle.apf_asm.proofs.TextHex.{decode_of-lower, encode_lower-low}
+use Rattle.apf_asm.specs.Items.{bytes_limit}
 
 -- a choice by an equal word, or the rest
 pub chosen : {A : Type 0} (a b : List ℕ) (yes : Bool) (x y : Option A) (z : A) → bytes_eq a b ≡ yes → cond yes x y ≡ Some z → ((a ≡ b) × (x ≡ Some z)) ⊎ (y ≡ Some z)
@@ -52,7 +53,7 @@ register_of-word (suc (suc n)) lt = absurd (omega arith)
 pub below_is : (bound : ℕ) (word : List ℕ) (n : ℕ) → below bound word ≡ Some n → (n < bound) × (word ≡ decimal n)
 unfolding below
 below_is bound word n e =
-    let b = bind_some (number_of word) (word_below bound) n e in
+    let b = bind_some (word_number word) (word_below bound) n e in
     let small = word_below_is bound b.0 n b.2 in
     (small.0, (number_of_is word b.0 b.1).1 ∙ ap decimal small.1)
 
@@ -77,7 +78,7 @@ narrow n w width lt =
 pub fitting_is : (w : ℕ) (word : List ℕ) (n : ℕ) → IsWidth w → fitting w word ≡ Some n → (n < 256 ^ w) × (word ≡ decimal n)
 unfolding fitting
 fitting_is w word n width e =
-    let b = bind_some (number_of word) (λ n. cond (leb (least_unsigned n) w) (Some n) None) n e in
+    let b = bind_some (word_number word) (λ n. cond (leb (least_unsigned n) w) (Some n) None) n e in
     let number = number_of_is word b.0 b.1 in
     let fits = if_some (leb (least_unsigned b.0) w) b.0 n b.2 in
     let small = wider b.0 w width number.0 (leb-true _ _ fits.0) in
@@ -112,16 +113,16 @@ positive_cases n z false p e = absurd cc
 
 pub signed_of_is : (word : List ℕ) (z : ℤ) → signed_of word ≡ Some z → FitsSigned w32 z × (word ≡ signed_decimal z)
 unfolding signed_of
-signed_of_is word z e = elim (first_byte word 45 (number_of (drop 1 word) >>= negative) (number_of word >>= positive) z (omega arith) e) [
+signed_of_is word z e = elim (first_byte word 45 (word_number (drop 1 word) >>= negative) (word_number word >>= positive) z (omega arith) e) [
   | inl minus ↦
-      let b = bind_some (number_of (drop 1 word)) negative z minus.1 in
+      let b = bind_some (word_number (drop 1 word)) negative z minus.1 in
       let n = negative_cases b.0 z (ltb 0 b.0) (leb b.0 2147483648) refl refl b.2 in
       let text = number_of_is (drop 1 word) b.0 b.1 in
       let fits : FitsSigned w32 (negsuc n.0) = record { sfits = n.3 } in
       let spelled : word ≡ 45 ∷ decimal (suc n.0) = minus.0 ∙ ap (λ (t : List ℕ). 45 ∷ t) (text.1 ∙ ap decimal n.1) in
       subst (λ (x : ℤ). FitsSigned w32 x × (word ≡ signed_decimal x)) (sym n.2) (fits, spelled)
   | inr plain ↦
-      let b = bind_some (number_of word) positive z plain in
+      let b = bind_some (word_number word) positive z plain in
       let n = positive_cases b.0 z (ltb b.0 2147483648) refl b.2 in
       let text = number_of_is word b.0 b.1 in
       let fits : FitsSigned w32 (pos b.0) = record { sfits = n.1 } in
@@ -151,7 +152,7 @@ target_of_is word to e = elim (chosen word (codes "pass") (bytes_eq word (codes 
     | inl drops ↦ subst (λ (t : Target). IsTarget t × (word ≡ target_word t)) (some_is targets.Drop to drops.1) (tt, drops.0)
     | inr named ↦ elim (first_byte word 76 _ None to (omega arith) named) [
       | inl label ↦
-          let b = bind_some (number_of (drop 1 word)) (λ n. Some (targets.Label n)) to label.1 in
+          let b = bind_some (word_number (drop 1 word)) (λ n. Some (targets.Label n)) to label.1 in
           let text = number_of_is (drop 1 word) b.0 b.1 in
           subst (λ (t : Target). IsTarget t × (word ≡ target_word t)) (some_is (targets.Label b.0) to b.2) (text.0, label.0 ∙ ap (λ (t : List ℕ). 76 ∷ t) text.1)
       | inr none ↦ absurd cc
@@ -169,12 +170,12 @@ target_of-word targets.Drop small = refl
 
 pub record Hex (word bytes : List ℕ) : Type 0 where
   pub bytes_fit : IsBytes bytes
-  pub long : length bytes ≤ 65535
+  pub long : length bytes ≤ bytes_limit
   pub text : word ≡ hex_word bytes
 
-few_cases : (bytes found : List ℕ) (b : Bool) → ltb 65535 (length bytes) ≡ b → cond b None (Some bytes) ≡ Some found → (bytes ≡ found) × (length found ≤ 65535)
+few_cases : (bytes found : List ℕ) (b : Bool) → ltb bytes_limit (length bytes) ≡ b → cond b None (Some bytes) ≡ Some found → (bytes ≡ found) × (length found ≤ bytes_limit)
 few_cases bytes found true t e = absurd cc
-few_cases bytes found false t e = let same = some_is bytes found e in (same, subst (λ (x : List ℕ). length x ≤ 65535) same (ltb-false 65535 (length bytes) t))
+few_cases bytes found false t e = let same = some_is bytes found e in (same, subst (λ (x : List ℕ). length x ≤ bytes_limit) same (ltb-false bytes_limit (length bytes) t))
 
 decoded : (r : Result (List ℕ) FromHexError) (bytes : List ℕ) → result_ok r ≡ Some bytes → r ≡ Ok bytes
 decoded (Ok x) bytes e = ap Ok (some_is x bytes e)
@@ -184,18 +185,18 @@ unless : {A : Type 0} (b : Bool) (x : Option A) (y : A) → cond b None x ≡ So
 unless true x y e = absurd cc
 unless false x y e = (refl, e)
 
-bytes_of_is : (digits bytes : List ℕ) → bytes_of digits ≡ Some bytes → IsBytes bytes × (length bytes ≤ 65535) × (digits ≡ encode_lower bytes)
+bytes_of_is : (digits bytes : List ℕ) → bytes_of digits ≡ Some bytes → IsBytes bytes × (length bytes ≤ bytes_limit) × (digits ≡ encode_lower bytes)
 unfolding bytes_of
 bytes_of_is digits bytes e =
     let g = unless (list_any is_upper digits) (result_ok (decode_of digits) >>= few) bytes e in
     let b = bind_some (result_ok (decode_of digits)) few bytes g.1 in
-    let f = few_cases b.0 bytes (ltb 65535 (length b.0)) refl b.2 in
+    let f = few_cases b.0 bytes (ltb bytes_limit (length b.0)) refl b.2 in
     let text = decode_of-lower digits b.0 (decoded (decode_of digits) b.0 b.1) g.0 in
     (subst IsBytes f.0 text.1, f.1, text.0 ∙ ap encode_lower f.0)
 
-bytes_of-encode_lower : (bytes : List ℕ) → IsBytes bytes → length bytes ≤ 65535 → bytes_of (encode_lower bytes) ≡ Some bytes
+bytes_of-encode_lower : (bytes : List ℕ) → IsBytes bytes → length bytes ≤ bytes_limit → bytes_of (encode_lower bytes) ≡ Some bytes
 unfolding bytes_of
-bytes_of-encode_lower bytes fits long = rw (encode_lower-low bytes fits, decode_of-encode_lower bytes fits, le-ltb 65535 (length bytes) long) refl
+bytes_of-encode_lower bytes fits long = rw (encode_lower-low bytes fits, decode_of-encode_lower bytes fits, le-ltb bytes_limit (length bytes) long) refl
 
 pub hex_of_is : (word bytes : List ℕ) → hex_of word ≡ Some bytes → Hex word bytes
 unfolding hex_of
@@ -206,12 +207,12 @@ hex_of_is word bytes e = elim (first_byte word 120 (bytes_of (drop 1 word)) None
   | inr none ↦ absurd cc
 ]
 
-pub hex_of-word : (bytes : List ℕ) → IsBytes bytes → length bytes ≤ 65535 → hex_of (hex_word bytes) ≡ Some bytes
+pub hex_of-word : (bytes : List ℕ) → IsBytes bytes → length bytes ≤ bytes_limit → hex_of (hex_word bytes) ≡ Some bytes
 unfolding hex_of
 hex_of-word bytes fits long = bytes_of-encode_lower bytes fits long
 
-pub counted_is : (w : ℕ) (word bytes : List ℕ) → IsWidth w → counted w word ≡ Some bytes → Hex word bytes × (length bytes < 256 ^ w)
-unfolding counted
+pub counted_is : (w : ℕ) (word bytes : List ℕ) → IsWidth w → counted_bytes w word ≡ Some bytes → Hex word bytes × (length bytes < 256 ^ w)
+unfolding counted_bytes
 counted_is w word bytes width e =
     let b = bind_some (hex_of word) (λ bytes. cond (leb (least_unsigned (length bytes)) w) (Some bytes) None) bytes e in
     let fits = if_some (leb (least_unsigned (length b.0)) w) b.0 bytes b.2 in
@@ -219,8 +220,8 @@ counted_is w word bytes width e =
     let long = h.long in
     (subst (λ (x : List ℕ). Hex word x) fits.1 h, subst (λ (x : List ℕ). length x < 256 ^ w) fits.1 (wider (length b.0) w width (omega arith) (leb-true _ _ fits.0)))
 
-pub counted-word : (w : ℕ) (bytes : List ℕ) → IsWidth w → IsBytes bytes → length bytes ≤ 65535 → length bytes < 256 ^ w → counted w (hex_word bytes) ≡ Some bytes
-unfolding counted
+pub counted-word : (w : ℕ) (bytes : List ℕ) → IsWidth w → IsBytes bytes → length bytes ≤ bytes_limit → length bytes < 256 ^ w → counted_bytes w (hex_word bytes) ≡ Some bytes
+unfolding counted_bytes
 counted-word w bytes width fits long lt = rw (hex_of-word bytes fits long, le-leb (least_unsigned (length bytes)) w (narrow (length bytes) w width lt)) refl
 
 some_cases : (bytes found : List ℕ) (b : Bool) → eqb (length bytes) 0 ≡ b → cond b None (Some bytes) ≡ Some found → (bytes ≡ found) × (0 < length found)

@@ -25,6 +25,7 @@ use Rattle.apf_asm.specs.Refusals.{stands, target_refused, refused, first, refus
 use Rattle.apf_asm.specs.Correct.{RunsAs}
 use Rattle.apf_asm.proofs.Lengths.{length-code, before-le}
 use Rattle.apf_asm.proofs.Law.{Leads, IsGood, AllGood, all_run}
+use Rattle.apf_base.specs.Limits.{program_limit}
 
 -- ---- labels
 
@@ -93,7 +94,7 @@ all_good (item ∷ rest) k before forms labelled ok small =
       all_good rest (k + 1) (before ++ item ∷ []) (All-tail IsItemForm item rest forms) (All-tail IsLabelled item rest labelled) split.1 short,
     )
 
-pub runs_as : (items : List Item) → All IsItemForm items → IsLabelForm items → refusal items ≡ None → length (layout items).bytes ≤ 65535 → RunsAs items (layout items).bytes (layout items).places
+pub runs_as : (items : List Item) → All IsItemForm items → IsLabelForm items → refusal items ≡ None → length (layout items).bytes ≤ program_limit → RunsAs items (layout items).bytes (layout items).places
 unfolding run
 runs_as items forms labelled ok short memory frame age long =
     let ws = item_widths items in

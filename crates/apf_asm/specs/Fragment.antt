@@ -8,7 +8,7 @@ use Rattle.apf_asm.specs.declared.item.Target.TheVariants as targets
 use Rattle.apf_asm.specs.Items.{IsItemForm, IsLabelForm}
 use Rattle.apf_asm.specs.Layout.{wide_length}
 use Rattle.apf_asm.specs.Refusals.{stands}
-use Rattle.apf_asm.specs.Saying.{Tells}
+use Rattle.apf_asm.specs.Saying.{TellsSaid}
 
 -- ---- labels
 
@@ -60,7 +60,7 @@ pub record IsFragment (from to most : ℕ) (xs : List Item) : Type 0 where
 -- a fragment that says this, or several one behind the other
 pub record IsPart (said : ℕ → List ℕ → Said) (from to most : ℕ) (xs : List Item) : Type 0 where
   pub form : IsFragment from to most xs
-  pub tells : Tells said xs
+  pub tells : TellsSaid said xs
 
 -- A call that raises the next label from one number to another adds a fragment that says this to a list.
 pub record Emits (said : ℕ → List ℕ → Said) (most from to : ℕ) (old new : List Item) : Type 0 where

@@ -18,11 +18,18 @@ jump_instruction j width offset = record { op = j.op; reg = j.reg; width = width
 
 -- ---- which items may be assembled
 
+-- the most items of a list, and the most bytes that one compares with
+abbrev pub item_limit : ℕ
+item_limit = 1048576
+
+abbrev pub bytes_limit : ℕ
+bytes_limit = 65535
+
 -- as an instruction, whose second immediate is then below 2 ^ 32
 pub record IsFixedForm (f : Fixed) : Type 0 where
   pub well_formed : IsWellFormed (fixed_instruction f)
   pub each_a_byte : (k : ℕ) → slice_index f.bytes k < 256
-  pub short : length f.bytes ≤ 65535
+  pub short : length f.bytes ≤ bytes_limit
 
 -- jmp and jnebs have register 0; a second immediate stands with a conditional jump of register 0 alone, and bytes with jnebs alone
 pub record IsJumpForm (j : Jump) : Type 0 where
@@ -34,7 +41,7 @@ pub record IsJumpForm (j : Jump) : Type 0 where
   pub no_bytes : is_counted j.op ≡ false → j.bytes ≡ []
   pub some_bytes : is_counted j.op ≡ true → 0 < length j.bytes
   pub each_a_byte : (k : ℕ) → slice_index j.bytes k < 256
-  pub short : length j.bytes ≤ 65535
+  pub short : length j.bytes ≤ bytes_limit
 
 abbrev pub IsItemForm : Item → Type 0
 IsItemForm (items.Fixed f) = IsFixedForm f

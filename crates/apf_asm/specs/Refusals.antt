@@ -8,6 +8,7 @@ use Rattle.apf_asm.specs.declared.item.AsmError.{AsmError}
 use Rattle.apf_asm.specs.declared.item.AsmError.TheVariants.{Twice, Unknown, Backward, TooLong, OutOfMemory}
 use Rattle.apf_asm.specs.Items.{marks}
 use Rattle.apf_asm.specs.Layout.{layout}
+use Rattle.apf_base.specs.Limits.{program_limit}
 
 -- ---- labels
 
@@ -61,7 +62,7 @@ pub record IsFirstRefusal (items : List Item) (error : AsmError) : Type 0 where
 -- ---- all that is refused
 
 abbrev pub too_long : ℕ → Option AsmError
-too_long bytes = if nat_lt 65535 bytes then Some (TooLong bytes) else None
+too_long bytes = if nat_lt program_limit bytes then Some (TooLong bytes) else None
 
 -- the first item that is refused, or else code of more than 65,535 bytes
 abbrev pub answer : List Item → Option AsmError
@@ -78,4 +79,4 @@ pub record ExactlyWhere {T : Type 0} (fact : Type 0) (result : Result T AsmError
 pub record IsOverlong (items : List Item) (bytes : ℕ) : Type 0 where
   pub labels : refusal items ≡ None
   pub length_is : bytes ≡ length (layout items).bytes
-  pub long : 65535 < bytes
+  pub long : program_limit < bytes

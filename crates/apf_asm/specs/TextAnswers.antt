@@ -15,13 +15,13 @@ Answers (Err (Kind kind)) answer = answer ≡ Err kind
 Answers (Err OutOfMemory) answer = Unit {0}
 
 -- what a line stands for was added to the items, or the line is named, unless memory ran out
-abbrev pub Adds : Result (Unit {0}) TextError → ℕ → Result (Option Item) TextKind → List Item → List Item → Type 0
-Adds (Ok done) number answer old new = (found : Option Item) × (answer ≡ Ok found) × (new ≡ old ++ option_to_list found)
-Adds (Err (errors.Bad line kind)) number answer old new = (line ≡ number) × (answer ≡ Err kind)
-Adds (Err errors.OutOfMemory) number answer old new = Unit {0}
+abbrev pub AddsItem : Result (Unit {0}) TextError → ℕ → Result (Option Item) TextKind → List Item → List Item → Type 0
+AddsItem (Ok done) number answer old new = (found : Option Item) × (answer ≡ Ok found) × (new ≡ old ++ option_to_list found)
+AddsItem (Err (errors.Bad line kind)) number answer old new = (line ≡ number) × (answer ≡ Err kind)
+AddsItem (Err errors.OutOfMemory) number answer old new = Unit {0}
 
 -- the answer for a text, unless memory ran out
-abbrev pub Tells : Result (List Item) TextError → Result (List Item) TextError → Type 0
-Tells (Ok items) answer = answer ≡ Ok items
-Tells (Err (errors.Bad line kind)) answer = answer ≡ Err (errors.Bad line kind)
-Tells (Err errors.OutOfMemory) answer = Unit {0}
+abbrev pub AnswersAs : Result (List Item) TextError → Result (List Item) TextError → Type 0
+AnswersAs (Ok items) answer = answer ≡ Ok items
+AnswersAs (Err (errors.Bad line kind)) answer = answer ≡ Err (errors.Bad line kind)
+AnswersAs (Err errors.OutOfMemory) answer = Unit {0}

@@ -8,11 +8,12 @@ use Rattle.apf_coding.specs.declared.instruction.Op.TheVariants.{Ldb, Ldh, Ldw, 
 use Rattle.apf_coding.specs.Widths.{least_unsigned, least_signed}
 use Rattle.apf_coding.specs.Instruction.{Instruction, is_conditional, is_counted, has_second}
 use Rattle.apf_coding.specs.Spelling.{IsWellFormed}
-use Rattle.apf_coding.specs.Names.{name_of}
+use Rattle.apf_coding.specs.Names.{op_name}
 use Rattle.apf_asm.specs.declared.item.Target.{Target}
 use Rattle.apf_asm.specs.declared.item.Target.TheVariants as targets
 use Rattle.apf_asm.specs.declared.item.Item.{Item}
 use Rattle.apf_asm.specs.declared.item.Item.TheVariants as items
+use Rattle.apf_asm.specs.Items.{bytes_limit}
 
 -- a line by its form, with the numbers, registers and targets that stand in it
 pub data Form : Type 0 where
@@ -54,7 +55,7 @@ hex_word bytes = codes "x" ++ encode_lower bytes
 
 -- an opcode's name, a dot and a width
 abbrev pub dotted_word : Op → ℕ → List ℕ
-dotted_word op width = name_of op ++ codes "." ++ (48 + width) ∷ []
+dotted_word op width = op_name op ++ codes "." ++ (48 + width) ∷ []
 
 -- the second immediate of an instruction, where there is one
 abbrev pub second_words : Instruction → List (List ℕ)
@@ -67,12 +68,12 @@ counted_words i = if is_counted i.op then hex_word i.bytes ∷ [] else []
 -- the words of a line
 abbrev pub words_of : Form → List (List ℕ)
 words_of (Label n) = (codes "L" ++ decimal n ++ codes ":") ∷ []
-words_of (Load op reg n) = name_of op ∷ register_word reg ∷ decimal n ∷ []
-words_of (Arithmetic op n) = name_of op ∷ decimal n ∷ []
-words_of (ArithmeticR1 op) = name_of op ∷ register_word 1 ∷ []
+words_of (Load op reg n) = op_name op ∷ register_word reg ∷ decimal n ∷ []
+words_of (Arithmetic op n) = op_name op ∷ decimal n ∷ []
+words_of (ArithmeticR1 op) = op_name op ∷ register_word 1 ∷ []
 words_of (Shift z) = codes "sh" ∷ signed_decimal z ∷ []
 words_of ShiftR1 = codes "sh" ∷ register_word 1 ∷ []
-words_of (Signed op reg z) = name_of op ∷ register_word reg ∷ signed_decimal z ∷ []
+words_of (Signed op reg z) = op_name op ∷ register_word reg ∷ signed_decimal z ∷ []
 words_of (LoadSlot reg slot) = codes "ldm" ∷ register_word reg ∷ decimal slot ∷ []
 words_of (StoreSlot reg slot) = codes "stm" ∷ register_word reg ∷ decimal slot ∷ []
 words_of (Complement reg) = codes "not" ∷ register_word reg ∷ []
@@ -80,8 +81,8 @@ words_of (Negate reg) = codes "neg" ∷ register_word reg ∷ []
 words_of Swap = codes "swap" ∷ []
 words_of (Move reg) = codes "move" ∷ register_word reg ∷ []
 words_of (Jump to) = codes "jmp" ∷ target_word to ∷ []
-words_of (Compare op n to) = name_of op ∷ decimal n ∷ target_word to ∷ []
-words_of (CompareR1 op to) = name_of op ∷ register_word 1 ∷ target_word to ∷ []
+words_of (Compare op n to) = op_name op ∷ decimal n ∷ target_word to ∷ []
+words_of (CompareR1 op to) = op_name op ∷ register_word 1 ∷ target_word to ∷ []
 words_of (CompareBytes bytes to) = codes "jnebs" ∷ hex_word bytes ∷ target_word to ∷ []
 words_of (Dotted i) = dotted_word i.op i.width ∷ register_word i.reg ∷ decimal i.imm ∷ second_words i ++ counted_words i
 words_of (Byte b) = codes ".byte" ∷ decimal b ∷ []
@@ -189,8 +190,8 @@ IsAllowed (Move reg) = reg < 2
 IsAllowed (Jump to) = IsTarget to
 IsAllowed (Compare op n to) = IsTrue (is_conditional op) × IsWord n × IsTarget to
 IsAllowed (CompareR1 op to) = IsTrue (is_conditional op) × IsTarget to
-IsAllowed (CompareBytes bytes to) = IsBytes bytes × (0 < length bytes) × (length bytes ≤ 65535) × IsTarget to
-IsAllowed (Dotted i) = IsWellFormed i × IsBytes i.bytes × (length i.bytes ≤ 65535)
+IsAllowed (CompareBytes bytes to) = IsBytes bytes × (0 < length bytes) × (length bytes ≤ bytes_limit) × IsTarget to
+IsAllowed (Dotted i) = IsWellFormed i × IsBytes i.bytes × (length i.bytes ≤ bytes_limit)
 IsAllowed (Byte b) = b < 256
 
 -- ---- what a line says

@@ -4,7 +4,7 @@ use Rattle.std.specs.Fmt.{decimal}
 use Rattle.apf_coding.specs.declared.instruction.Op.{Op}
 use Rattle.apf_coding.specs.declared.instruction.Op.TheVariants.{Ext}
 use Rattle.apf_coding.specs.Spelling.{IsWidth}
-use Rattle.apf_coding.specs.Names.{name_of}
+use Rattle.apf_coding.specs.Names.{op_name}
 use Rattle.apf_asm.specs.TextForms.{IsWord, dotted_word}
 
 -- the names of the extended instructions, and that of a byte
@@ -13,7 +13,7 @@ other_names = codes "ldm" ∷ codes "stm" ∷ codes "not" ∷ codes "neg" ∷ co
 
 -- an opcode's name other than ext, or another name
 abbrev pub IsName : List ℕ → Type 0
-IsName word = ((op : Op) × (op ≢ Ext) × (word ≡ name_of op)) ⊎ Contains other_names word
+IsName word = ((op : Op) × (op ≢ Ext) × (word ≡ op_name op)) ⊎ Contains other_names word
 
 -- `L`, a number and a colon
 abbrev pub IsLabel : List ℕ → Type 0

@@ -54,11 +54,11 @@ AreRead [] items = items ≡ []
 AreRead (line ∷ lines) items = (found : Option Item) × (rest : List Item) × IsRead line found × AreRead lines rest × (items ≡ option_to_list found ++ rest)
 
 -- the text stands for the items
-abbrev pub Reads : List ℕ → List Item → Type 0
-Reads text items = AreRead (lines_of text) items
+abbrev pub TextReads : List ℕ → List Item → Type 0
+TextReads text items = AreRead (lines_of text) items
 
 -- a line of the text, counted from 1, is refused, and none before it is
-pub record Refuses (text : List ℕ) (number : ℕ) (kind : TextKind) : Type 0 where
+pub record TextRefuses (text : List ℕ) (number : ℕ) (kind : TextKind) : Type 0 where
   pub before : List (List ℕ)
   pub line : List ℕ
   pub after : List (List ℕ)

@@ -9,7 +9,7 @@ use Rattle.apf_coding.specs.declared.instruction.Op.{Op}
 use Rattle.apf_coding.specs.declared.instruction.Op.TheVariants.{Ldb, Ldh, Ldw, Ldbx, Ldhx, Ldwx, Add, Mul, Div, And, Or, Sh, Li, Jmp, Jeq, Jne, Jgt, Jlt, Jset, Jnebs, Ext, Lddw, Stdw}
 use Rattle.apf_coding.specs.Widths.{least_unsigned}
 use Rattle.apf_coding.specs.Instruction.{all_ops, has_second}
-use Rattle.apf_coding.specs.Names.{name_of}
+use Rattle.apf_coding.specs.Names.{op_name}
 use Rattle.apf_coding.specs.Reading.{◌>>=◌}
 use Rattle.apf_asm.specs.declared.item.Target.{Target}
 use Rattle.apf_asm.specs.declared.item.Target.TheVariants as targets
@@ -25,6 +25,7 @@ use Rattle.apf_asm.specs.TextForms.{plain, unsigned, signed, jump, given}
 use Rattle.plain_text.specs.Lines.{lines_of}
 use Rattle.apf_asm.specs.TextLines.{is_printable, words_in}
 use Rattle.plain_text.specs.Numbers as numbers
+use Rattle.apf_asm.specs.Items.{bytes_limit}
 
 -- ---- words
 
@@ -32,8 +33,8 @@ abbrev pub word_below : ℕ → ℕ → Option ℕ
 word_below bound n = if nat_lt n bound then Some n else None
 
 -- the number of 32 bits that a word spells
-abbrev pub number_of : List ℕ → Option ℕ
-number_of word = numbers.number_of 4294967295 word
+abbrev pub word_number : List ℕ → Option ℕ
+word_number word = numbers.number_within 4294967295 word
 
 abbrev pub negative : ℕ → Option ℤ
 negative n = if nat_lt 0 n && nat_le n 2147483648 then Some (neg_ℤ (pos n)) else None
@@ -42,7 +43,7 @@ abbrev pub positive : ℕ → Option ℤ
 positive n = if nat_lt n 2147483648 then Some (pos n) else None
 
 unfoldable pub signed_of : List ℕ → Option ℤ
-signed_of word = if slice_index word 0 == 45 then (number_of (drop 1 word) >>= negative) else (number_of word >>= positive)
+signed_of word = if slice_index word 0 == 45 then (word_number (drop 1 word) >>= negative) else (word_number word >>= positive)
 
 unfoldable pub register_of : List ℕ → Option ℕ
 register_of word = if bytes_eq word (codes "r0") then Some 0 else if bytes_eq word (codes "r1") then Some 1 else None
@@ -51,14 +52,14 @@ unfoldable pub target_of : List ℕ → Option Target
 target_of word =
     if bytes_eq word (codes "pass") then Some targets.Pass
     else if bytes_eq word (codes "drop") then Some targets.Drop
-    else if slice_index word 0 == 76 then (number_of (drop 1 word) >>= λ n. Some (targets.Label n))
+    else if slice_index word 0 == 76 then (word_number (drop 1 word) >>= λ n. Some (targets.Label n))
     else None
 
 abbrev pub is_upper : ℕ → Bool
 is_upper c = nat_le 65 c && nat_le c 90
 
 abbrev pub few : List ℕ → Option (List ℕ)
-few bytes = if nat_lt 65535 (length bytes) then None else Some bytes
+few bytes = if nat_lt bytes_limit (length bytes) then None else Some bytes
 
 -- the bytes of lower-case digits
 unfoldable pub bytes_of : List ℕ → Option (List ℕ)
@@ -71,7 +72,7 @@ hex_of word = if slice_index word 0 == 120 then bytes_of (drop 1 word) else None
 
 -- the opcode with this name
 unfoldable pub op_named : List ℕ → Option Op
-op_named name = find (λ op. bytes_eq (name_of op) name) all_ops
+op_named name = find (λ op. bytes_eq (op_name op) name) all_ops
 
 abbrev pub width_of : ℕ → Option ℕ
 width_of c = if c == 48 then Some 0 else if c == 49 then Some 1 else if c == 50 then Some 2 else if c == 52 then Some 4 else None
@@ -133,7 +134,7 @@ is_dotted_word word = nat_le 2 (length word) && (slice_index word (length word -
 -- what the first word says of the line
 unfoldable pub head_of : List ℕ → Option Head
 head_of word =
-    if is_label_word word then (number_of (take (length word - 2) (drop 1 word)) >>= λ n. Some (heads.Label n))
+    if is_label_word word then (word_number (take (length word - 2) (drop 1 word)) >>= λ n. Some (heads.Label n))
     else if is_dotted_word word then dotted_head (take (length word - 2) word) (slice_index word (length word - 1))
     else head_from (op_named word) word
 
@@ -168,11 +169,11 @@ two_or_three _ short long = None
 abbrev pub load_read : Op → List ℕ → List ℕ → Option Item
 load_read op r n = do
   reg ← register_of r
-  number ← number_of n
+  number ← word_number n
   Some (unsigned op reg number)
 
 abbrev pub arithmetic_read : Op → List ℕ → Option Item
-arithmetic_read op n = if bytes_eq n (codes "r1") then Some (plain op 1 0 0) else (number_of n >>= λ number. Some (unsigned op 0 number))
+arithmetic_read op n = if bytes_eq n (codes "r1") then Some (plain op 1 0 0) else (word_number n >>= λ number. Some (unsigned op 0 number))
 
 abbrev pub shift_read : List ℕ → Option Item
 shift_read n = if bytes_eq n (codes "r1") then Some (plain Sh 1 0 0) else (signed_of n >>= λ number. Some (signed Sh 0 number))
@@ -185,7 +186,7 @@ signed_read op r n = do
 
 -- a number below a bound
 unfoldable pub below : ℕ → List ℕ → Option ℕ
-below bound word = number_of word >>= word_below bound
+below bound word = word_number word >>= word_below bound
 
 abbrev pub slot_read : ℕ → List ℕ → List ℕ → Option Item
 slot_read base r n = do
@@ -204,7 +205,7 @@ compare_r1_read op t = target_of t >>= λ to. Some (jump op 1 0 [] to)
 
 abbrev pub compare_number_read : Op → List ℕ → List ℕ → Option Item
 compare_number_read op n t = do
-  number ← number_of n
+  number ← word_number n
   to ← target_of t
   Some (jump op 0 number [] to)
 
@@ -216,7 +217,7 @@ byte_read n = below 256 n >>= λ b. Some (items.Byte b)
 
 -- a number of at most so many bytes
 unfoldable pub fitting : ℕ → List ℕ → Option ℕ
-fitting width word = number_of word >>= λ n. if nat_le (least_unsigned n) width then Some n else None
+fitting width word = word_number word >>= λ n. if nat_le (least_unsigned n) width then Some n else None
 
 -- an instruction without a second immediate and without counted bytes
 abbrev pub short_read : Op → ℕ → List ℕ → List ℕ → Option Item
@@ -250,15 +251,15 @@ simple_read (heads.Dotted op width) operands = two_or_three operands (short_read
 simple_read heads.Byte operands = one operands byte_read
 
 -- the counted bytes of an instruction with a width
-unfoldable pub counted : ℕ → List ℕ → Option (List ℕ)
-counted width word = hex_of word >>= λ bytes. if nat_le (least_unsigned (length bytes)) width then Some bytes else None
+unfoldable pub counted_bytes : ℕ → List ℕ → Option (List ℕ)
+counted_bytes width word = hex_of word >>= λ bytes. if nat_le (least_unsigned (length bytes)) width then Some bytes else None
 
 -- an instruction with counted bytes
 abbrev pub counted_read : ℕ → List ℕ → List ℕ → List ℕ → Option Item
 counted_read width r n x = do
   reg ← register_of r
   imm ← fitting width n
-  bytes ← counted width x
+  bytes ← counted_bytes width x
   Some (given (record { op = Jnebs; reg = reg; width = width; imm = imm; second = 0; bytes = bytes }))
 
 abbrev pub some_bytes : List ℕ → Option (List ℕ)
@@ -295,12 +296,12 @@ words_answer (word ∷ operands) = head_answer (head_of word) operands
 unfoldable pub line_answer : List ℕ → Result (Option Item) TextKind
 line_answer line = if list_all is_printable line then words_answer (words_in line) else Err kinds.Ascii
 
-abbrev pub with_front : List Item → Result (List Item) TextError → Result (List Item) TextError
-with_front front (Ok items) = Ok (front ++ items)
-with_front front (Err e) = Err e
+abbrev pub with_items : List Item → Result (List Item) TextError → Result (List Item) TextError
+with_items front (Ok items) = Ok (front ++ items)
+with_items front (Err e) = Err e
 
 abbrev pub goes_on : Result (Option Item) TextKind → ℕ → Result (List Item) TextError → Result (List Item) TextError
-goes_on (Ok found) number later = with_front (option_to_list found) later
+goes_on (Ok found) number later = with_items (option_to_list found) later
 goes_on (Err kind) number later = Err (Bad number kind)
 
 -- the lines from one with this number on

@@ -1,33 +1,34 @@
 //! The assembler.
 
 ghost use Rattle.std.specs.Prelude.{◌≡◌, ◌≤◌, ◌⊎◌, ℕ, length, All, IfOk, IfErr, OnOk, Some, None};
-ghost use Rattle.apf_asm.specs.Items.{IsItemForm, IsLabelForm};
+ghost use Rattle.apf_asm.specs.Items.{IsItemForm, IsLabelForm, item_limit};
 ghost use Rattle.apf_asm.specs.Layout.{item_widths, item_offsets, layout};
 ghost use Rattle.apf_asm.specs.Refusals.{refusal, answer, ExactlyWhere, IsOverlong};
 ghost use Rattle.apf_asm.specs.Correct.{RunsAs};
 ghost use Rattle.apf_asm.specs.Spacing.{code_length};
+ghost use Rattle.apf_base.specs.Limits.{program_limit};
 
 use crate::emitting::{Code, emit, emit_bytes};
 use crate::item::{AsmError, Item};
 use crate::labels::find_aims;
 use crate::spacing::{Spacing, space};
-use apf_base::List;
+use apf_base::{List, PROGRAM_LIMIT};
 use std::alloc::Global;
 
 /// The spacing of items that are refused for no cause.
 fn lay_out(alloc: Global, items: &[Item]) -> Result<Spacing, AsmError>
-    requires few { length items.now ≤ 1048576 }
+    requires few { length items.now ≤ item_limit }
     requires forms { All IsItemForm items.now }
     ensures widths { IfOk result (λ spacing. spacing.widths.items ≡ item_widths items.now) }
     ensures offsets { IfOk result (λ spacing. spacing.offsets.items ≡ item_offsets items.now) }
     ensures bytes { IfOk result (λ spacing. spacing.bytes ≡ code_length items.now) }
-    ensures short { IfOk result (λ spacing. spacing.bytes ≤ 65535) }
+    ensures short { IfOk result (λ spacing. spacing.bytes ≤ program_limit) }
     ensures ok { OnOk result (answer items.now ≡ None) }
     ensures err { IfErr result (λ e. (e ≡ AsmError.OutOfMemory) ⊎ (answer items.now ≡ Some e)) }
 {
     let aims = find_aims(alloc, items)?;
     let spacing = space(alloc, items, &aims)?;
-    if spacing.bytes > 65535 {
+    if spacing.bytes > PROGRAM_LIMIT as u64 {
         return Err(AsmError::TooLong {
             bytes: spacing.bytes,
         });
@@ -37,7 +38,7 @@ fn lay_out(alloc: Global, items: &[Item]) -> Result<Spacing, AsmError>
 
 /// Assembles items, with the one answer that they have where there is memory.
 fn assemble_items(alloc: Global, items: &[Item]) -> Result<Code, AsmError>
-    requires few { length items.now ≤ 1048576 }
+    requires few { length items.now ≤ item_limit }
     requires forms { All IsItemForm items.now }
     ensures bytes { IfOk result (λ code. code.bytes ≡ (layout items.now).bytes) }
     ensures places { IfOk result (λ code. code.places ≡ (layout items.now).places) }
@@ -52,7 +53,7 @@ fn assemble_items(alloc: Global, items: &[Item]) -> Result<Code, AsmError>
 
 /// The bytes of items, with the one answer that they have where there is memory.
 fn bytes_of_items(alloc: Global, items: &[Item]) -> Result<List<u8>, AsmError>
-    requires few { length items.now ≤ 1048576 }
+    requires few { length items.now ≤ item_limit }
     requires forms { All IsItemForm items.now }
     ensures bytes { IfOk result (λ bytes. bytes ≡ (layout items.now).bytes) }
     ensures ok { OnOk result (answer items.now ≡ None) }
@@ -73,7 +74,7 @@ fn bytes_of_items(alloc: Global, items: &[Item]) -> Result<List<u8>, AsmError>
 /// `Twice`, `Unknown` and `Backward` name the first item that is refused. `TooLong` comes where none is and the code
 /// would have more than 65,535 bytes.
 pub fn assemble(alloc: Global, items: &[Item]) -> Result<Code, AsmError>
-    requires few { length items.now ≤ 1048576 }
+    requires few { length items.now ≤ item_limit }
     requires forms { All IsItemForm items.now }
     // The code is the one layout of the items.
     ensures bytes { IfOk result (λ code. code.bytes ≡ (layout items.now).bytes) }
@@ -99,7 +100,7 @@ pub fn assemble(alloc: Global, items: &[Item]) -> Result<Code, AsmError>
 
 /// The bytes of items, as `assemble` gives them, without their places and widths.
 pub fn assemble_bytes(alloc: Global, items: &[Item]) -> Result<List<u8>, AsmError>
-    requires few { length items.now ≤ 1048576 }
+    requires few { length items.now ≤ item_limit }
     requires forms { All IsItemForm items.now }
     // The code is the one layout of the items.
     ensures bytes { IfOk result (λ bytes. bytes ≡ (layout items.now).bytes) }

@@ -1,9 +1,10 @@
 //! The bytes, places and widths of items.
 
 ghost use Rattle.std.specs.Prelude.{◌≡◌, ◌≤◌, ◌<◌, ◌^◌, ◌++◌, ◌∷◌, [], length, All, IfOk, OnOk};
-ghost use Rattle.apf_asm.specs.Items.{IsItemForm};
+ghost use Rattle.apf_asm.specs.Items.{IsItemForm, item_limit};
 ghost use Rattle.apf_asm.specs.Layout.{piece, IsFit, item_widths, item_offsets, own_width, layout};
 ghost use Rattle.apf_asm.specs.Spacing.{code_length};
+ghost use Rattle.apf_base.specs.Limits.{program_limit};
 
 use crate::item::Item;
 use apf_base::{List, OutOfMemory};
@@ -108,11 +109,11 @@ pub(crate) fn emit(
     bytes: usize,
 ) -> Result<Code, OutOfMemory>
     requires forms { All IsItemForm items.now }
-    requires few { length items.now ≤ 1048576 }
+    requires few { length items.now ≤ item_limit }
     requires widths { widths.now ≡ item_widths items.now }
     requires offsets { offsets.now ≡ item_offsets items.now }
     requires length { bytes ≡ code_length items.now }
-    requires short { code_length items.now ≤ 65535 }
+    requires short { code_length items.now ≤ program_limit }
     ensures bytes { IfOk result (λ code. code.bytes ≡ (layout items.now).bytes) }
     ensures places { IfOk result (λ code. code.places ≡ (layout items.now).places) }
     ensures widths { IfOk result (λ code. code.widths ≡ (layout items.now).widths) }
@@ -141,7 +142,7 @@ pub(crate) fn emit_bytes(
     requires forms { All IsItemForm items.now }
     requires widths { widths.now ≡ item_widths items.now }
     requires offsets { offsets.now ≡ item_offsets items.now }
-    requires short { code_length items.now ≤ 65535 }
+    requires short { code_length items.now ≤ program_limit }
     ensures { IfOk result (λ bytes. bytes ≡ (layout items.now).bytes) }
 {
     let mut bytes = List::new(alloc);

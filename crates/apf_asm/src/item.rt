@@ -8,6 +8,9 @@ use apf_coding::Op;
 use std::alloc::{AllocError, AllocFailed};
 use thiserror::Error;
 
+/// The most bytes that one item compares with.
+pub const BYTES_LIMIT: usize = 65535;
+
 /// An instruction that is spelled as it stands, with its width and its first immediate.
 #[derive(Debug, Drop)]
 pub struct Fixed {

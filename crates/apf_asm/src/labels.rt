@@ -3,6 +3,7 @@
 ghost use Rattle.std.specs.Prelude.{◌≡◌, ◌≢◌, ◌≤◌, ◌<◌, ℕ, length, None, Some, IfOk, IfErr, OnOk, ◌⊎◌};
 ghost use Rattle.apf_asm.specs.Refusals.{refusal};
 ghost use Rattle.apf_asm.specs.Labels.{found, label_found, label_aim, jump_aim, item_aim, aims_from};
+ghost use Rattle.apf_asm.specs.Items.{item_limit};
 
 use crate::item::{AsmError, Item, Target};
 use apf_base::OutOfMemory;
@@ -70,7 +71,7 @@ fn first_labels(alloc: Global, items: &[Item]) -> Result<Labels, OutOfMemory>
 
 /// A label goes nowhere, and stands for the first time.
 fn label_aim(first: &Labels, number: usize, label: u32, end: usize) -> Result<usize, AsmError>
-    requires { number < 1048576 }
+    requires { number < item_limit }
     ensures { result ≡ label_aim number label end (found first.now.near.items first.now.far label) }
 {
     match first.get(label) {
@@ -84,7 +85,7 @@ fn label_aim(first: &Labels, number: usize, label: u32, end: usize) -> Result<us
 
 /// A jump goes to a label that stands behind it.
 fn jump_aim(first: &Labels, number: usize, label: u32) -> Result<usize, AsmError>
-    requires { number < 1048576 }
+    requires { number < item_limit }
     ensures { result ≡ jump_aim number label (found first.now.near.items first.now.far label) }
 {
     let item = number as u32;
@@ -98,7 +99,7 @@ fn jump_aim(first: &Labels, number: usize, label: u32) -> Result<usize, AsmError
 /// The number of the item to which an item goes, or what is wrong with it. Where it goes nowhere that is the number
 /// behind the last.
 fn item_aim(first: &Labels, number: usize, item: &Item, end: usize) -> Result<usize, AsmError>
-    requires { number < 1048576 }
+    requires { number < item_limit }
     ensures { result ≡ item_aim (found first.now.near.items first.now.far) number end item.now }
 {
     match item {
@@ -113,7 +114,7 @@ fn item_aim(first: &Labels, number: usize, item: &Item, end: usize) -> Result<us
 
 /// For each item the number of the item to which it goes, or what is wrong with the first that is refused.
 pub(crate) fn find_aims(alloc: Global, items: &[Item]) -> Result<Vec<usize>, AsmError>
-    requires { length items.now ≤ 1048576 }
+    requires { length items.now ≤ item_limit }
     ensures ok { OnOk result (refusal items.now ≡ None) }
     ensures aims { IfOk result (λ aims. aims.items ≡ aims_from 0 items.now) }
     ensures err { IfErr result (λ e. (e ≡ AsmError.OutOfMemory) ⊎ (refusal items.now ≡ Some e)) }

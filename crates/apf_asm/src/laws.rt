@@ -6,6 +6,14 @@ ghost use Rattle.apf_asm.specs.Layout.{layout, item_widths, wide_length};
 ghost use Rattle.apf_asm.specs.declared.item.AsmError.{AsmError};
 ghost use Rattle.apf_asm.specs.Refusals.{refusal, IsFirstRefusal};
 ghost use Rattle.apf_asm.specs.Narrowing.{rounds};
+ghost use Rattle.apf_asm.specs.Items.{bytes_limit};
+
+use crate::item::BYTES_LIMIT;
+
+/// The limit of the code is that of the definitions.
+pub fn bytes_limit_is_defined()
+    ensures { BYTES_LIMIT ≡ bytes_limit }
+{}
 
 /// Going through the items in order comes to what is wrong with the first that is refused.
 pub fn refusals_are_first()

@@ -31,8 +31,11 @@ mod text_tests;
 pub use assembly::{assemble, assemble_bytes};
 pub use building::{count, fixed, jump, jump_if, jump_if_r1, jump_unless, load, place, to_end};
 pub use emitting::Code;
-pub use item::{AsmError, Fixed, Item, Jump, Target};
-pub use laws::{codes_are_at_most_wide, narrowing_comes_to_the_layout, refusals_are_first};
+pub use item::{AsmError, BYTES_LIMIT, Fixed, Item, Jump, Target};
+pub use laws::{
+    bytes_limit_is_defined, codes_are_at_most_wide, narrowing_comes_to_the_layout,
+    refusals_are_first,
+};
 pub use sharing::types_are_shared;
 pub use text::read_text;
 pub use text_error::{TextError, TextKind};

@@ -1,7 +1,7 @@
 //! Sizes of items.
 
 ghost use Rattle.std.specs.Prelude.{◌≡◌, ◌≤◌};
-ghost use Rattle.apf_asm.specs.Items.{IsItemForm};
+ghost use Rattle.apf_asm.specs.Items.{IsItemForm, bytes_limit};
 ghost use Rattle.apf_asm.specs.Sizing.{tail_size};
 ghost use Rattle.apf_asm.specs.Layout.{size};
 
@@ -11,7 +11,7 @@ use apf_coding::Op;
 /// The number of bytes behind the first immediate.
 fn tail_size(op: Op, reg: u8, width: u8, count: usize) -> u64
     requires width { width ≤ 4 }
-    requires count { count ≤ 65535 }
+    requires count { count ≤ bytes_limit }
     ensures { result ≡ tail_size op reg width count }
 {
     match op {

@@ -1,7 +1,7 @@
 //! The widths and offsets of jumps.
 
 ghost use Rattle.std.specs.Prelude.{◌≡◌, ◌^◌, ◌<◌, ◌≤◌, length, All, IfOk, None};
-ghost use Rattle.apf_asm.specs.Items.{IsItemForm, IsJumpForm};
+ghost use Rattle.apf_asm.specs.Items.{IsItemForm, IsJumpForm, item_limit};
 ghost use Rattle.apf_coding.specs.Widths.{least_unsigned};
 ghost use Rattle.apf_asm.specs.Layout.{beside, width_for, item_width, item_widths, item_offsets};
 ghost use Rattle.apf_asm.specs.Labels.{aims_from};
@@ -78,7 +78,7 @@ fn item_offset(item: &Item, here: u64, there: u64) -> u64
 /// The one layout of items that are refused for no cause, from the last item to the first.
 pub(crate) fn space(alloc: Global, items: &[Item], aims: &[usize]) -> Result<Spacing, OutOfMemory>
     requires forms { All IsItemForm items.now }
-    requires few { length items.now ≤ 1048576 }
+    requires few { length items.now ≤ item_limit }
     requires labels { refusal items.now ≡ None }
     requires aims { aims.now ≡ aims_from 0 items.now }
     ensures widths { IfOk result (λ spacing. spacing.widths.items ≡ item_widths items.now) }

@@ -2,12 +2,13 @@
 
 ghost use Rattle.std.specs.Prelude.{◌≡◌, ◌<◌, ◌≤◌, ◌∷◌, ◌⊎◌, ℕ, List as Items, length, All, IfOk, Ok, Err};
 ghost use Rattle.apf_asm.specs.declared.item.Item.{Item};
-ghost use Rattle.apf_asm.specs.Items.{IsItemForm};
+ghost use Rattle.apf_asm.specs.Items.{IsItemForm, item_limit};
 ghost use Rattle.apf_asm.specs.declared.text_error.TextKind.{TextKind};
 ghost use Rattle.plain_text.specs.Lines.{lines_of};
-ghost use Rattle.apf_asm.specs.TextLines.{Reads, Refuses};
-ghost use Rattle.apf_asm.specs.TextAnswers.{Adds, Tells};
+ghost use Rattle.apf_asm.specs.TextLines.{TextReads, TextRefuses};
+ghost use Rattle.apf_asm.specs.TextAnswers.{AddsItem, AnswersAs};
 ghost use Rattle.apf_asm.specs.TextReading.{line_answer, text_answer};
+ghost use Rattle.apf_base.specs.Limits.{text_limit};
 
 use crate::Item;
 use crate::text_error::TextError;
@@ -23,7 +24,7 @@ fn add_line(
     line: &[u8],
     items: &mut List<Item>,
 ) -> Result<(), TextError>
-    ensures { Adds result number (line_answer line.now) items.old items.new }
+    ensures { AddsItem result number (line_answer line.now) items.old items.new }
 {
     match line_item(alloc, line) {
         Ok(Some(item)) => {
@@ -37,8 +38,8 @@ fn add_line(
 }
 
 fn read_lines(alloc: Global, text: &[u8]) -> Result<List<Item>, TextError>
-    requires { length text.now ≤ 1048576 }
-    ensures { Tells result (text_answer text.now) }
+    requires { length text.now ≤ text_limit }
+    ensures { AnswersAs result (text_answer text.now) }
 {
     let mut items = List::new(alloc);
     let mut number = 0;
@@ -54,18 +55,18 @@ fn read_lines(alloc: Global, text: &[u8]) -> Result<List<Item>, TextError>
 
 /// The items that a text stands for, in the order of its lines, or its first refused line.
 pub fn read_text(alloc: Global, text: &[u8]) -> Result<List<Item>, TextError>
-    requires { length text.now ≤ 1048576 }
+    requires { length text.now ≤ text_limit }
     // What is answered is what the text stands for.
-    ensures found { IfOk result (λ items. Reads text.now items) }
-    ensures only { (items : Items Item) → Reads text.now items → (result ≡ Ok items) ⊎ (result ≡ Err TextError.OutOfMemory) }
+    ensures found { IfOk result (λ items. TextReads text.now items) }
+    ensures only { (items : Items Item) → TextReads text.now items → (result ≡ Ok items) ⊎ (result ≡ Err TextError.OutOfMemory) }
     // The line that is named is the first that is refused.
-    ensures named { (line : ℕ) (kind : TextKind) → result ≡ Err (TextError.Bad line kind) → Refuses text.now line kind }
-    ensures refused { (line : ℕ) (kind : TextKind) → Refuses text.now line kind → (result ≡ Err (TextError.Bad line kind)) ⊎ (result ≡ Err TextError.OutOfMemory) }
+    ensures named { (line : ℕ) (kind : TextKind) → result ≡ Err (TextError.Bad line kind) → TextRefuses text.now line kind }
+    ensures refused { (line : ℕ) (kind : TextKind) → TextRefuses text.now line kind → (result ≡ Err (TextError.Bad line kind)) ⊎ (result ≡ Err TextError.OutOfMemory) }
     // By a function that computes.
-    ensures exact { Tells result (text_answer text.now) }
+    ensures exact { AnswersAs result (text_answer text.now) }
     // The items can be assembled.
     ensures forms { IfOk result (λ items. All IsItemForm items) }
-    ensures few { IfOk result (λ items. length items ≤ 1048576) }
+    ensures few { IfOk result (λ items. length items ≤ item_limit) }
 {
     read_lines(alloc, text)
 }

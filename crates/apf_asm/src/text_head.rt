@@ -1,7 +1,7 @@
 //! The first word of a line.
 
 ghost use Rattle.std.specs.Prelude.{◌≡◌};
-ghost use Rattle.apf_coding.specs.Reading.{Reads};
+ghost use Rattle.apf_coding.specs.Reading.{IsReadAs};
 ghost use Rattle.apf_asm.specs.TextReading.{op_named, width_of, op_head, other_head, dotted_head, head_from, head_of};
 
 use crate::text_number::number;
@@ -86,7 +86,7 @@ fn op_head(op: Op) -> Option<Head>
 /// What a name that is no opcode's says of a line.
 #[tactic(auto, unfolding(crate::specs::TextReading::other_head))]
 fn other_head(word: &[u8]) -> Option<Head>
-    ensures { Reads (λ x. x) result (other_head word.now) }
+    ensures { IsReadAs (λ x. x) result (other_head word.now) }
 {
     match word {
         b"ldm" => Some(Head::Slot(0)),
@@ -102,14 +102,14 @@ fn other_head(word: &[u8]) -> Option<Head>
 
 /// What an opcode's name, a dot and a width say.
 fn dotted_head(name: &[u8], digit: u8) -> Option<Head>
-    ensures { Reads (λ x. x) result (dotted_head name.now digit) }
+    ensures { IsReadAs (λ x. x) result (dotted_head name.now digit) }
 {
     Some(Head::Dotted(op_named(name)?, width_of(digit)?))
 }
 
 /// What a name says of a line.
 fn name_head(word: &[u8]) -> Option<Head>
-    ensures { Reads (λ x. x) result (head_from (op_named word.now) word.now) }
+    ensures { IsReadAs (λ x. x) result (head_from (op_named word.now) word.now) }
 {
     match op_named(word) {
         Some(op) => op_head(op),
@@ -120,7 +120,7 @@ fn name_head(word: &[u8]) -> Option<Head>
 /// What the first word of a line says, if it is known.
 #[tactic(auto, unfolding(crate::specs::TextReading::head_of))]
 pub(crate) fn head_of(word: &[u8]) -> Option<Head>
-    ensures { Reads (λ x. x) result (head_of word.now) }
+    ensures { IsReadAs (λ x. x) result (head_of word.now) }
 {
     match word {
         [b'L', digits @ .., b':'] => Some(Head::Label(number(digits)?)),

@@ -2,9 +2,9 @@
 
 ghost use Rattle.std.specs.Prelude.{◌≡◌, ◌≤◌, [], map, IfOk};
 ghost use Rattle.apf_coding.specs.Instruction.{has_second, is_counted};
-ghost use Rattle.apf_coding.specs.Reading.{Reads};
+ghost use Rattle.apf_coding.specs.Reading.{IsReadAs};
 ghost use Rattle.apf_asm.specs.TextForms.{immediate, plain, unsigned, signed, jump, given};
-ghost use Rattle.apf_asm.specs.TextReading.{slot_read, fitting, short_read, long_read, simple_read, counted, counted_read, compare_bytes_read, item_read};
+ghost use Rattle.apf_asm.specs.TextReading.{slot_read, fitting, short_read, long_read, simple_read, counted_bytes, counted_read, compare_bytes_read, item_read};
 
 use crate::text_bytes::hex_bytes;
 use crate::text_head::Head;
@@ -71,7 +71,7 @@ fn jump(alloc: Global, op: Op, reg: u8, second: u32, to: Target) -> Item
 /// A number of at most so many bytes.
 #[tactic(auto, unfolding(crate::specs::TextReading::fitting))]
 fn fitting(width: u8, word: &[u8]) -> Option<u32>
-    ensures { Reads (λ x. x) result (fitting width word.now) }
+    ensures { IsReadAs (λ x. x) result (fitting width word.now) }
 {
     let n = number(word)?;
     if least_unsigned(n) <= width {
@@ -97,7 +97,7 @@ fn extended(alloc: Global, reg: u8, code: u32) -> Item
 
 /// An extended instruction on a slot.
 fn slot(alloc: Global, base: u8, reg: &[u8], slot: &[u8]) -> Option<Item>
-    ensures { Reads (λ x. x) result (slot_read base reg.now slot.now) }
+    ensures { IsReadAs (λ x. x) result (slot_read base reg.now slot.now) }
 {
     let reg = register(reg)?;
     let slot = number_below(16, slot)?;
@@ -106,7 +106,7 @@ fn slot(alloc: Global, base: u8, reg: &[u8], slot: &[u8]) -> Option<Item>
 
 /// An instruction with its width, without a second immediate and without counted bytes.
 fn short(alloc: Global, op: Op, width: u8, reg: &[u8], imm: &[u8]) -> Option<Item>
-    ensures { Reads (λ x. x) result (short_read op width reg.now imm.now) }
+    ensures { IsReadAs (λ x. x) result (short_read op width reg.now imm.now) }
 {
     let reg = register(reg)?;
     let imm = fitting(width, imm)?;
@@ -119,7 +119,7 @@ fn short(alloc: Global, op: Op, width: u8, reg: &[u8], imm: &[u8]) -> Option<Ite
 
 /// An instruction with its width and a second immediate.
 fn long(alloc: Global, op: Op, width: u8, reg: &[u8], imm: &[u8], second: &[u8]) -> Option<Item>
-    ensures { Reads (λ x. x) result (long_read op width reg.now imm.now second.now) }
+    ensures { IsReadAs (λ x. x) result (long_read op width reg.now imm.now second.now) }
 {
     let reg = register(reg)?;
     let imm = fitting(width, imm)?;
@@ -140,7 +140,7 @@ fn long(alloc: Global, op: Op, width: u8, reg: &[u8], imm: &[u8], second: &[u8])
 /// The item of a line without bytes.
 #[tactic(auto, unfolding(crate::specs::TextReading::simple_read))]
 fn simple(alloc: Global, head: Head, operands: &[&[u8]]) -> Option<Item>
-    ensures { Reads (λ x. x) result (simple_read head (map (λ x. x.now) operands.now)) }
+    ensures { IsReadAs (λ x. x) result (simple_read head (map (λ x. x.now) operands.now)) }
 {
     match (head, operands) {
         (Head::Label(n), []) => Some(Item::Label(n)),
@@ -164,9 +164,9 @@ fn simple(alloc: Global, head: Head, operands: &[&[u8]]) -> Option<Item>
 }
 
 /// The counted bytes of an instruction with a width.
-#[tactic(auto, unfolding(crate::specs::TextReading::counted))]
+#[tactic(auto, unfolding(crate::specs::TextReading::counted_bytes))]
 fn counted(alloc: Global, width: u8, word: &[u8]) -> Result<Option<List<u8>>, OutOfMemory>
-    ensures { IfOk result (λ found. Reads (λ x. x) found (counted width word.now)) }
+    ensures { IfOk result (λ found. IsReadAs (λ x. x) found (counted_bytes width word.now)) }
 {
     match hex_bytes(alloc, word)? {
         Some(bytes) if least_unsigned(bytes.len() as u32) <= width => Ok(Some(bytes)),
@@ -182,7 +182,7 @@ fn dotted_compare(
     imm: &[u8],
     bytes: &[u8],
 ) -> Result<Option<Item>, OutOfMemory>
-    ensures { IfOk result (λ found. Reads (λ x. x) found (counted_read width reg.now imm.now bytes.now)) }
+    ensures { IfOk result (λ found. IsReadAs (λ x. x) found (counted_read width reg.now imm.now bytes.now)) }
 {
     let (Some(reg), Some(imm)) = (register(reg), fitting(width, imm)) else {
         return Ok(None);
@@ -202,7 +202,7 @@ fn dotted_compare(
 
 /// A byte comparison with a target.
 fn compare_bytes(alloc: Global, bytes: &[u8], to: &[u8]) -> Result<Option<Item>, OutOfMemory>
-    ensures { IfOk result (λ found. Reads (λ x. x) found (compare_bytes_read bytes.now to.now)) }
+    ensures { IfOk result (λ found. IsReadAs (λ x. x) found (compare_bytes_read bytes.now to.now)) }
 {
     let Some(to) = target(to) else {
         return Ok(None);
@@ -226,7 +226,7 @@ pub(crate) fn item(
     head: Head,
     operands: &[&[u8]],
 ) -> Result<Option<Item>, OutOfMemory>
-    ensures { IfOk result (λ found. Reads (λ x. x) found (item_read head (map (λ x. x.now) operands.now))) }
+    ensures { IfOk result (λ found. IsReadAs (λ x. x) found (item_read head (map (λ x. x.now) operands.now))) }
 {
     match head {
         Head::CompareBytes => {

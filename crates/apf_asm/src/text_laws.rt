@@ -11,7 +11,7 @@ ghost use Rattle.apf_asm.specs.declared.text_error.TextError.{TextError};
 ghost use Rattle.apf_asm.specs.declared.text_error.TextKind.{TextKind};
 ghost use Rattle.apf_asm.specs.TextForms.{Denotes, IsKnown, immediate};
 ghost use Rattle.apf_asm.specs.TextKnown.{IsName, IsLabel, IsDotted};
-ghost use Rattle.apf_asm.specs.TextLines.{Reads, Refuses};
+ghost use Rattle.apf_asm.specs.TextLines.{TextReads, TextRefuses};
 ghost use Rattle.apf_asm.specs.TextReading.{text_answer};
 
 /// Words stand for at most one item, and it is well formed.
@@ -27,16 +27,16 @@ pub fn first_words_are_listed()
 
 /// Each text stands for one list of items, or one line of it is the first that is refused.
 pub fn texts_are_read_or_refused()
-    ensures either { (text : List ℕ) → ((items : List Item) × Reads text items) ⊎ ((line : ℕ) × (kind : TextKind) × Refuses text line kind) }
-    ensures not_both { (text : List ℕ) (items : List Item) (line : ℕ) (kind : TextKind) → Reads text items → Refuses text line kind → ⊥ }
-    ensures one_reading { (text : List ℕ) (first second : List Item) → Reads text first → Reads text second → first ≡ second }
-    ensures one_refusal { (text : List ℕ) (line other : ℕ) (kind cause : TextKind) → Refuses text line kind → Refuses text other cause → (line ≡ other) × (kind ≡ cause) }
+    ensures either { (text : List ℕ) → ((items : List Item) × TextReads text items) ⊎ ((line : ℕ) × (kind : TextKind) × TextRefuses text line kind) }
+    ensures not_both { (text : List ℕ) (items : List Item) (line : ℕ) (kind : TextKind) → TextReads text items → TextRefuses text line kind → ⊥ }
+    ensures one_reading { (text : List ℕ) (first second : List Item) → TextReads text first → TextReads text second → first ≡ second }
+    ensures one_refusal { (text : List ℕ) (line other : ℕ) (kind cause : TextKind) → TextRefuses text line kind → TextRefuses text other cause → (line ≡ other) × (kind ≡ cause) }
 {}
 
 /// The function that computes gives what a text stands for, or its first refused line.
 pub fn texts_are_answered()
-    ensures read { (text : List ℕ) (items : List Item) → (text_answer text ≡ Ok items) ↔ Reads text items }
-    ensures refused { (text : List ℕ) (line : ℕ) (kind : TextKind) → (text_answer text ≡ Err (TextError.Bad line kind)) ↔ Refuses text line kind }
+    ensures read { (text : List ℕ) (items : List Item) → (text_answer text ≡ Ok items) ↔ TextReads text items }
+    ensures refused { (text : List ℕ) (line : ℕ) (kind : TextKind) → (text_answer text ≡ Err (TextError.Bad line kind)) ↔ TextRefuses text line kind }
 {}
 
 /// The first immediate of a line with a signed number is that number, as the machine reads it.

@@ -1,15 +1,15 @@
 //! Words of a line that are numbers, registers and targets.
 
 ghost use Rattle.std.specs.Prelude.{◌≡◌, ◌≤◌};
-ghost use Rattle.apf_coding.specs.Reading.{Reads};
-ghost use Rattle.apf_asm.specs.TextReading.{number_of, signed_of, register_of, target_of, below};
+ghost use Rattle.apf_coding.specs.Reading.{IsReadAs};
+ghost use Rattle.apf_asm.specs.TextReading.{word_number, signed_of, register_of, target_of, below};
 
 use crate::Target;
 use plain_text::read_decimal;
 
 /// A decimal number without leading zeros.
 pub(crate) fn number(word: &[u8]) -> Option<u32>
-    ensures { Reads (λ x. x) result (number_of word.now) }
+    ensures { IsReadAs (λ x. x) result (word_number word.now) }
 {
     read_decimal(word, u32::MAX)
 }
@@ -17,7 +17,7 @@ pub(crate) fn number(word: &[u8]) -> Option<u32>
 /// A decimal number that may begin with `-`. There is no `-0`.
 #[tactic(auto, unfolding(crate::specs::TextReading::signed_of))]
 pub(crate) fn signed_number(word: &[u8]) -> Option<i32>
-    ensures { Reads (λ x. x) result (signed_of word.now) }
+    ensures { IsReadAs (λ x. x) result (signed_of word.now) }
 {
     match word {
         [b'-', digits @ ..] => match number(digits)? {
@@ -32,7 +32,7 @@ pub(crate) fn signed_number(word: &[u8]) -> Option<i32>
 #[tactic(auto, unfolding(crate::specs::TextReading::below))]
 pub(crate) fn number_below(bound: u16, word: &[u8]) -> Option<u8>
     requires { bound ≤ 256 }
-    ensures { Reads (λ x. x) result (below bound word.now) }
+    ensures { IsReadAs (λ x. x) result (below bound word.now) }
 {
     match number(word)? {
         n if n < u32::from(bound) => Some(n as u8),
@@ -43,7 +43,7 @@ pub(crate) fn number_below(bound: u16, word: &[u8]) -> Option<u8>
 /// `r0` or `r1`.
 #[tactic(auto, unfolding(crate::specs::TextReading::register_of))]
 pub(crate) fn register(word: &[u8]) -> Option<u8>
-    ensures { Reads (λ x. x) result (register_of word.now) }
+    ensures { IsReadAs (λ x. x) result (register_of word.now) }
 {
     match word {
         b"r0" => Some(0),
@@ -55,7 +55,7 @@ pub(crate) fn register(word: &[u8]) -> Option<u8>
 /// `pass`, `drop` or a label.
 #[tactic(auto, unfolding(crate::specs::TextReading::target_of))]
 pub(crate) fn target(word: &[u8]) -> Option<Target>
-    ensures { Reads (λ x. x) result (target_of word.now) }
+    ensures { IsReadAs (λ x. x) result (target_of word.now) }
 {
     match word {
         b"pass" => Some(Target::Pass),

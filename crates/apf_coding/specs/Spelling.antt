@@ -4,7 +4,7 @@
 -- The first immediate follows, then what the opcode has beside it.
 use Rattle.std.specs.Prelude.{◌≡◌, ℕ, ◌+◌, ◌*◌, ◌^◌, ◌<◌, ◌⊎◌, false, ◌==◌, if◌then◌else◌, List, [], ◌∷◌, ◌++◌, length, slice_range, ◌≤◌}
 use Rattle.apf_coding.specs.Words.{big_endian}
-use Rattle.apf_coding.specs.Instruction.{number_of, Instruction, is_counted, has_second}
+use Rattle.apf_coding.specs.Instruction.{opcode_of, Instruction, is_counted, has_second}
 
 -- the widths of immediates and counts, in bytes
 abbrev pub IsWidth : ℕ → Type 0
@@ -26,7 +26,7 @@ size_of w = if w == 4 then 3 else w
 
 -- opcode, size field and register bit
 abbrev pub first_byte : Instruction → ℕ
-first_byte i = number_of i.op * 8 + size_of i.width * 2 + i.reg
+first_byte i = opcode_of i.op * 8 + size_of i.width * 2 + i.reg
 
 -- the bytes of the second immediate, where there is one
 abbrev pub second_of : Instruction → List ℕ

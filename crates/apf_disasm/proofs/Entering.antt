@@ -6,14 +6,14 @@ use Rattle.apf_coding.specs.Instruction.{Instruction}
 use Rattle.apf_coding.specs.Spelling.{Begins}
 use Rattle.apf_disasm.specs.declared.listing.Line.{Line}
 use Rattle.apf_disasm.specs.declared.listing.Line.TheVariants as lines
-use Rattle.apf_disasm.specs.Listing.{Entry, Byte, entry_of, Lists, IsListing}
+use Rattle.apf_disasm.specs.Listing.{ListingEntry, Byte, entry_of, Lists, IsListing}
 
 -- the rest of a listing, behind the lines so far
 abbrev pub GoesOn : List ℕ → ℕ → List Line → Type 0
-GoesOn code at before = (rest : List Entry) → Lists code at rest → IsListing code (map entry_of before ++ rest)
+GoesOn code at before = (rest : List ListingEntry) → Lists code at rest → IsListing code (map entry_of before ++ rest)
 
-behind : (before : List Line) (line : Line) (rest : List Entry) → map entry_of (before ++ line ∷ []) ++ rest ≡ map entry_of before ++ entry_of line ∷ rest
-behind before line rest = ap (λ (front : List Entry). front ++ rest) (map-append entry_of before (line ∷ [])) ∙ append_assoc (map entry_of before) (entry_of line ∷ []) rest
+behind : (before : List Line) (line : Line) (rest : List ListingEntry) → map entry_of (before ++ line ∷ []) ++ rest ≡ map entry_of before ++ entry_of line ∷ rest
+behind before line rest = ap (λ (front : List ListingEntry). front ++ rest) (map-append entry_of before (line ∷ [])) ∙ append_assoc (map entry_of before) (entry_of line ∷ []) rest
 
 pub byte_more : (code : List ℕ) (at : ℕ) (before new : List Line) → GoesOn code at before → at < length code → ((i : Instruction) (end : ℕ) → Begins code at i end → ⊥)
     → new ≡ before ++ lines.Byte at (get_or code at 0) ∷ [] → GoesOn code (at + 1) new

@@ -12,8 +12,9 @@ use Rattle.apf_coding.proofs.Numbers.{AreBytes-take, AreBytes-drop, AreBytes-tai
 use Rattle.apf_asm.specs.TextForms.{Dotted, IsAllowed}
 use Rattle.apf_disasm.specs.declared.listing.Line.{Line}
 use Rattle.apf_disasm.specs.Listing as listing
-use Rattle.apf_disasm.specs.Listing.{Entry, entry_of, Lists, IsListing}
+use Rattle.apf_disasm.specs.Listing.{ListingEntry, entry_of, Lists, IsListing}
 use Rattle.apf_disasm.specs.Printing.{form_of, place_of, IsReadable}
+use Rattle.apf_base.specs.Limits.{program_limit}
 
 -- ---- the bytes of an instruction in a code
 
@@ -29,7 +30,7 @@ counted_long : (b : Bool) (w : ℕ) (bytes : List ℕ) → (b ≡ false → byte
 counted_long true w bytes none = omega (arith, length-append (big_endian w (length bytes)) bytes)
 counted_long false w bytes none = rw (none refl) (omega arith)
 
-pub begun_allowed : (code : List ℕ) (at : ℕ) (i : Instruction) (end : ℕ) → AreBytes code → length code ≤ 65535 → Begins code at i end → IsAllowed (Dotted i)
+pub begun_allowed : (code : List ℕ) (at : ℕ) (i : Instruction) (end : ℕ) → AreBytes code → length code ≤ program_limit → Begins code at i end → IsAllowed (Dotted i)
 begun_allowed code at i end fits long b =
     let good : IsWellFormed i = b.spells.well_formed in
     let spelled : slice_range code at end ≡ spelling i = b.spells.spelled in
@@ -43,11 +44,11 @@ begun_allowed code at i end fits long b =
 -- ---- entries
 
 -- the form of an entry is allowed, and its place is in the code
-pub record IsGood (size : ℕ) (e : Entry) : Type 0 where
+pub record IsGood (size : ℕ) (e : ListingEntry) : Type 0 where
   pub allowed : IsAllowed (form_of e)
   pub place : place_of e < size
 
-pub entries_good : (code : List ℕ) (at : ℕ) (entries : List Entry) → AreBytes code → length code ≤ 65535 → Lists code at entries → AllByRecursion (IsGood (length code)) entries
+pub entries_good : (code : List ℕ) (at : ℕ) (entries : List ListingEntry) → AreBytes code → length code ≤ program_limit → Lists code at entries → AllByRecursion (IsGood (length code)) entries
 entries_good code at [] fits long l = tt
 entries_good code at (listing.Op place i ∷ rest) fits long l =
     let b = l.1.1 in
@@ -65,5 +66,5 @@ each_readable : (size : ℕ) (ls : List Line) → AllByRecursion (IsGood size) (
 each_readable size [] good = tt
 each_readable size (line ∷ rest) good = (good.0.allowed, each_readable size rest good.1)
 
-pub lines_readable : (code : List ℕ) (ls : List Line) → AreBytes code → length code ≤ 65535 → IsListing code (map entry_of ls) → All IsReadable ls
+pub lines_readable : (code : List ℕ) (ls : List Line) → AreBytes code → length code ≤ program_limit → IsListing code (map entry_of ls) → All IsReadable ls
 lines_readable code ls fits long l = All-from_recursion IsReadable ls (each_readable (length code) ls (entries_good code 0 (map entry_of ls) fits long l))

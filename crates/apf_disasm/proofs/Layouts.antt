@@ -12,24 +12,25 @@ use Rattle.apf_asm.specs.Layout.{code, item_widths, layout}
 use Rattle.apf_asm.specs.Refusals.{refused_from, answer}
 use Rattle.apf_asm.specs.TextForms.{item_of}
 use Rattle.apf_disasm.specs.Listing as listing
-use Rattle.apf_disasm.specs.Listing.{Entry, Lists, IsListing}
+use Rattle.apf_disasm.specs.Listing.{ListingEntry, Lists, IsListing}
 use Rattle.apf_disasm.specs.Printing.{form_of}
+use Rattle.apf_base.specs.Limits.{program_limit}
 
-abbrev pub items_of : List Entry → List Item
+abbrev pub items_of : List ListingEntry → List Item
 items_of entries = map (λ e. item_of (form_of e)) entries
 
 -- the bytes of an entry
-abbrev pub bytes_of : Entry → List ℕ
+abbrev pub bytes_of : ListingEntry → List ℕ
 bytes_of (listing.Op at i) = spelling i
 bytes_of (listing.Byte at value) = value ∷ []
 
-pub laid_out : (entries : List Entry) → code (items_of entries) (item_widths (items_of entries)) ≡ flat_map bytes_of entries
+pub laid_out : (entries : List ListingEntry) → code (items_of entries) (item_widths (items_of entries)) ≡ flat_map bytes_of entries
 unfolding code item_widths
 laid_out [] = refl
 laid_out (listing.Op at i ∷ rest) = ap (λ (t : List ℕ). spelling i ++ t) (laid_out rest)
 laid_out (listing.Byte at value ∷ rest) = ap (λ (t : List ℕ). value ∷ t) (laid_out rest)
 
-pub listed_bytes : (source : List ℕ) (at : ℕ) (entries : List Entry) → Lists source at entries → flat_map bytes_of entries ≡ drop at source
+pub listed_bytes : (source : List ℕ) (at : ℕ) (entries : List ListingEntry) → Lists source at entries → flat_map bytes_of entries ≡ drop at source
 listed_bytes source at [] l = sym (drop_all at source (let end = l in omega arith))
 listed_bytes source at (listing.Op place i ∷ rest) l =
     let b = l.1.1 in
@@ -42,16 +43,16 @@ listed_bytes source at (listing.Byte place value ∷ rest) l =
     let next : at + 1 ≡ suc at = omega arith in
     ap (λ (t : List ℕ). value ∷ t) (listed_bytes source (at + 1) rest l.3) ∙ ap (λ (n : ℕ). value ∷ drop n source) next ∙ ap (λ (v : ℕ). v ∷ drop (suc at) source) (sym value_is) ∙ sym (drop-cons source at 0 inside)
 
-none_refused : (number : ℕ) (before : List Item) (entries : List Entry) → refused_from number before (items_of entries) ≡ None
+none_refused : (number : ℕ) (before : List Item) (entries : List ListingEntry) → refused_from number before (items_of entries) ≡ None
 unfolding refused_from
 none_refused number before [] = refl
 none_refused number before (listing.Op at i ∷ rest) = none_refused (number + 1) (before ++ item_of (form_of (listing.Op at i)) ∷ []) rest
 none_refused number before (listing.Byte at value ∷ rest) = none_refused (number + 1) (before ++ item_of (form_of (listing.Byte at value)) ∷ []) rest
 
-pub layout_is : (source : List ℕ) (entries : List Entry) → IsListing source entries → (layout (items_of entries)).bytes ≡ source
+pub layout_is : (source : List ℕ) (entries : List ListingEntry) → IsListing source entries → (layout (items_of entries)).bytes ≡ source
 layout_is source entries l = laid_out entries ∙ listed_bytes source 0 entries l
 
-pub accepted : (source : List ℕ) (entries : List Entry) → IsListing source entries → length source ≤ 65535 → answer (items_of entries) ≡ None
+pub accepted : (source : List ℕ) (entries : List ListingEntry) → IsListing source entries → length source ≤ program_limit → answer (items_of entries) ≡ None
 accepted source entries l long =
-    let size : ltb 65535 (length (layout (items_of entries)).bytes) ≡ false = ap (λ (t : List ℕ). ltb 65535 (length t)) (layout_is source entries l) ∙ le-ltb 65535 (length source) long in
+    let size : ltb program_limit (length (layout (items_of entries)).bytes) ≡ false = ap (λ (t : List ℕ). ltb program_limit (length t)) (layout_is source entries l) ∙ le-ltb program_limit (length source) long in
     rw (none_refused 0 [] entries, size) refl

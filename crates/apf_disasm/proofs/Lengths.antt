@@ -12,20 +12,21 @@ use Rattle.apf_coding.specs.declared.instruction.Op.TheVariants.{Ldb, Ldh, Ldw, 
 use Rattle.apf_coding.specs.Words.{big_endian}
 use Rattle.apf_coding.specs.Instruction.{Instruction, has_second, is_counted}
 use Rattle.apf_coding.specs.Spelling.{IsWidth, IsWellFormed, spelling, first_byte, second_of, counted_of}
-use Rattle.apf_coding.specs.Names.{name_of}
+use Rattle.apf_coding.specs.Names.{op_name}
 use Rattle.apf_coding.proofs.Numbers.{length-big_endian}
 use Rattle.apf_disasm.specs.Listing as listing
-use Rattle.apf_disasm.specs.Listing.{Entry, IsListing}
+use Rattle.apf_disasm.specs.Listing.{ListingEntry, IsListing}
 use Rattle.apf_disasm.specs.Printing.{line_text, listing_text}
 use Rattle.apf_disasm.proofs.Entries.{IsGood}
 use Rattle.apf_disasm.proofs.Layouts.{bytes_of, listed_bytes}
 use Rattle.apf_disasm.proofs.Parts.{spaced, join_spaced, spaced-append}
 use Rattle.apf_asm.specs.TextForms.{Dotted, words_of, register_word, dotted_word, hex_word, second_words, counted_words}
 use Rattle.apf_asm.proofs.Whole.{not_both}
+use Rattle.apf_base.specs.Limits.{program_limit}
 
 -- ---- the parts
 
-name_short : (op : Op) → is_counted op ≡ false → length (name_of op) ≤ 4
+name_short : (op : Op) → is_counted op ≡ false → length (op_name op) ≤ 4
 name_short Ldb t = omega arith
 name_short Ldh t = omega arith
 name_short Ldw t = omega arith
@@ -50,7 +51,7 @@ name_short Ext t = omega arith
 name_short Lddw t = omega arith
 name_short Stdw t = omega arith
 
-counted_name : (op : Op) → is_counted op ≡ true → length (name_of op) ≤ 5
+counted_name : (op : Op) → is_counted op ≡ true → length (op_name op) ≤ 5
 counted_name Ldb t = absurd cc
 counted_name Ldh t = absurd cc
 counted_name Ldw t = absurd cc
@@ -115,7 +116,7 @@ spelling_length i =
 
 -- the words of an instruction by their lengths
 words_sum : (i : Instruction)
-    → length (join_with_byte 32 (words_of (Dotted i))) ≡ length (name_of i.op) + length (decimal i.imm) + length (spaced (second_words i)) + length (spaced (counted_words i)) + 6
+    → length (join_with_byte 32 (words_of (Dotted i))) ≡ length (op_name i.op) + length (decimal i.imm) + length (spaced (second_words i)) + length (spaced (counted_words i)) + 6
 unfolding spaced
 words_sum i =
     let rest : List (List ℕ) = second_words i ++ counted_words i in
@@ -124,8 +125,8 @@ words_sum i =
     omega (
       arith,
       length-append (dotted_word i.op i.width) (spaced (register_word i.reg ∷ decimal i.imm ∷ rest)),
-      length-append (name_of i.op ++ codes ".") ((48 + i.width) ∷ []),
-      length-append (name_of i.op) (codes "."),
+      length-append (op_name i.op ++ codes ".") ((48 + i.width) ∷ []),
+      length-append (op_name i.op) (codes "."),
       length-append (decimal i.imm) (spaced rest),
       length-append (spaced (second_words i)) (spaced (counted_words i)),
     )
@@ -138,7 +139,7 @@ fits_26 true false name w n s b size bytes not_both short five nl sl bl e = let 
 fits_26 false true name w n s b size bytes not_both short five nl sl bl e = omega arith
 fits_26 false false name w n s b size bytes not_both short five nl sl bl e = let four = short refl in omega arith
 
-five : (op : Op) (b : Bool) → is_counted op ≡ b → length (name_of op) ≤ 5
+five : (op : Op) (b : Bool) → is_counted op ≡ b → length (op_name op) ≤ 5
 five op true e = counted_name op e
 five op false e = let four = name_short op e in omega arith
 
@@ -146,7 +147,7 @@ words_length : (i : Instruction) → IsWellFormed i → length (join_with_byte 3
 words_length i good =
     let width = good.width in
     let sum = words_sum i in
-    let bound = fits_26 (has_second i.op i.reg) (is_counted i.op) (length (name_of i.op)) i.width (length (decimal i.imm)) (length (spaced (second_words i))) (length (spaced (counted_words i))) (length (spelling i)) (length i.bytes)
+    let bound = fits_26 (has_second i.op i.reg) (is_counted i.op) (length (op_name i.op)) i.width (length (decimal i.imm)) (length (spaced (second_words i))) (length (spaced (counted_words i))) (length (spelling i)) (length i.bytes)
     (not_both i.op i.reg) (name_short i.op) (five i.op (is_counted i.op) refl) (number_length i.imm i.width width good.imm)
     (second_length (has_second i.op i.reg) i.second i.width width good.second) (counted_length (is_counted i.op) i.bytes good.no_bytes) (spelling_length i) in
     omega arith
@@ -157,7 +158,7 @@ line_length words at lt =
     let digits = length-decimal-le 5 at (omega arith) (omega arith) (omega arith) in
     omega (arith, length-append (words ++ codes " ; at " ++ decimal at) (10 ∷ []), length-append (words ++ codes " ; at ") (decimal at), length-append words (codes " ; at "))
 
-entry_length : (size : ℕ) (e : Entry) → size ≤ 100000 → IsGood size e → length (line_text e) ≤ 26 * length (bytes_of e)
+entry_length : (size : ℕ) (e : ListingEntry) → size ≤ 100000 → IsGood size e → length (line_text e) ≤ 26 * length (bytes_of e)
 unfolding line_text
 entry_length size (listing.Op at i) long good =
     let place = good.place in
@@ -173,14 +174,14 @@ entry_length size (listing.Byte at value) long good =
 
 -- ---- the whole
 
-entries_length : (size : ℕ) (entries : List Entry) → size ≤ 100000 → AllByRecursion (IsGood size) entries → length (listing_text entries) ≤ 26 * length (flat_map bytes_of entries)
+entries_length : (size : ℕ) (entries : List ListingEntry) → size ≤ 100000 → AllByRecursion (IsGood size) entries → length (listing_text entries) ≤ 26 * length (flat_map bytes_of entries)
 entries_length size [] long good = omega arith
 entries_length size (e ∷ rest) long good =
     let here = entry_length size e long good.0 in
     let more = entries_length size rest long good.1 in
     omega (arith, length-append (line_text e) (listing_text rest), length-append (bytes_of e) (flat_map bytes_of rest))
 
-pub listing_length : (code : List ℕ) (entries : List Entry) → length code ≤ 65535 → IsListing code entries → AllByRecursion (IsGood (length code)) entries → length (listing_text entries) ≤ 26 * length code
+pub listing_length : (code : List ℕ) (entries : List ListingEntry) → length code ≤ program_limit → IsListing code entries → AllByRecursion (IsGood (length code)) entries → length (listing_text entries) ≤ 26 * length code
 listing_length code entries long l good =
     let bound = entries_length (length code) entries (omega arith) good in
     let all = ap length (listed_bytes code 0 entries l) in

@@ -8,7 +8,7 @@ use Rattle.std.proofs.lemmas.List.{append-nil}
 use Rattle.hex.specs.Hex.{encode_lower}
 use Rattle.apf_coding.specs.Instruction.{Instruction, has_second, is_counted}
 use Rattle.apf_coding.specs.Spelling.{IsWidth, IsWellFormed}
-use Rattle.apf_coding.specs.Names.{name_of}
+use Rattle.apf_coding.specs.Names.{op_name}
 use Rattle.apf_asm.specs.TextForms.{Dotted, words_of, register_word, dotted_word, second_words, counted_words}
 use Rattle.apf_asm.proofs.Whole.{not_both}
 use Rattle.apf_disasm.specs.Listing as listing
@@ -43,38 +43,38 @@ regrouped : (name width reg imm rest : List ℕ)
 regrouped name width reg imm rest = simp append_assoc
 
 -- with further words, each behind a space
-front-spaced : (i : Instruction) (more : List (List ℕ)) → IsWellFormed i → front (name_of i.op) i ++ spaced more ≡ join_with_byte 32 (dotted_word i.op i.width ∷ register_word i.reg ∷ decimal i.imm ∷ more)
+front-spaced : (i : Instruction) (more : List (List ℕ)) → IsWellFormed i → front (op_name i.op) i ++ spaced more ≡ join_with_byte 32 (dotted_word i.op i.width ∷ register_word i.reg ∷ decimal i.imm ∷ more)
 unfolding spaced
 front-spaced i more good =
     let w : decimal i.width ≡ (48 + i.width) ∷ [] = decimal_digit i.width (width_small i.width good.width) in
     let bit = good.reg in
     let r : decimal i.reg ≡ (48 + i.reg) ∷ [] = decimal_digit i.reg (omega arith) in
-    regrouped (name_of i.op) (decimal i.width) (decimal i.reg) (decimal i.imm) (spaced more)
-    ∙ ap (λ (t : List ℕ). (name_of i.op ++ codes "." ++ t) ++ (32 ∷ ((codes "r" ++ decimal i.reg) ++ (32 ∷ (decimal i.imm ++ spaced more))))) w
+    regrouped (op_name i.op) (decimal i.width) (decimal i.reg) (decimal i.imm) (spaced more)
+    ∙ ap (λ (t : List ℕ). (op_name i.op ++ codes "." ++ t) ++ (32 ∷ ((codes "r" ++ decimal i.reg) ++ (32 ∷ (decimal i.imm ++ spaced more))))) w
     ∙ ap (λ (t : List ℕ). dotted_word i.op i.width ++ (32 ∷ ((codes "r" ++ t) ++ (32 ∷ (decimal i.imm ++ spaced more))))) r
     ∙ sym (join_spaced (dotted_word i.op i.width) (register_word i.reg ∷ decimal i.imm ∷ more))
 
-pub words_alone : (i : Instruction) (name text : List ℕ) → IsWellFormed i → has_second i.op i.reg ≡ false → is_counted i.op ≡ false → name ≡ name_of i.op → text ≡ front name i
+pub words_alone : (i : Instruction) (name text : List ℕ) → IsWellFormed i → has_second i.op i.reg ≡ false → is_counted i.op ≡ false → name ≡ op_name i.op → text ≡ front name i
     → text ≡ join_with_byte 32 (words_of (Dotted i))
 unfolding spaced
-words_alone i name text good has counted named e = rw (has, counted) (e ∙ ap (λ (t : List ℕ). front t i) named ∙ sym (append-nil (front (name_of i.op) i)) ∙ front-spaced i [] good)
+words_alone i name text good has counted named e = rw (has, counted) (e ∙ ap (λ (t : List ℕ). front t i) named ∙ sym (append-nil (front (op_name i.op) i)) ∙ front-spaced i [] good)
 
 -- one word more, where it is all that follows
-word_more : (i : Instruction) (name text word : List ℕ) → IsWellFormed i → second_words i ++ counted_words i ≡ word ∷ [] → name ≡ name_of i.op → text ≡ front name i
+word_more : (i : Instruction) (name text word : List ℕ) → IsWellFormed i → second_words i ++ counted_words i ≡ word ∷ [] → name ≡ op_name i.op → text ≡ front name i
     → text ++ (32 ∷ word) ≡ join_with_byte 32 (words_of (Dotted i))
 unfolding spaced
 word_more i name text word good further named e =
     rw further (
     ap (λ (t : List ℕ). t ++ (32 ∷ word)) (e ∙ ap (λ (t : List ℕ). front t i) named)
-    ∙ ap (λ (t : List ℕ). front (name_of i.op) i ++ (32 ∷ t)) (sym (append-nil word))
+    ∙ ap (λ (t : List ℕ). front (op_name i.op) i ++ (32 ∷ t)) (sym (append-nil word))
     ∙ front-spaced i (word ∷ []) good
     )
 
-pub words_second : (i : Instruction) (name text : List ℕ) → IsWellFormed i → has_second i.op i.reg ≡ true → name ≡ name_of i.op → text ≡ front name i
+pub words_second : (i : Instruction) (name text : List ℕ) → IsWellFormed i → has_second i.op i.reg ≡ true → name ≡ op_name i.op → text ≡ front name i
     → text ++ (codes " " ++ decimal i.second) ≡ join_with_byte 32 (words_of (Dotted i))
 words_second i name text good has = word_more i name text (decimal i.second) good (let counted = not_both i.op i.reg has in rw (has, counted) refl)
 
-pub words_bytes : (i : Instruction) (name text digits : List ℕ) → IsWellFormed i → has_second i.op i.reg ≡ false → is_counted i.op ≡ true → digits ≡ encode_lower i.bytes → name ≡ name_of i.op → text ≡ front name i
+pub words_bytes : (i : Instruction) (name text digits : List ℕ) → IsWellFormed i → has_second i.op i.reg ≡ false → is_counted i.op ≡ true → digits ≡ encode_lower i.bytes → name ≡ op_name i.op → text ≡ front name i
     → text ++ (codes " x" ++ digits) ≡ join_with_byte 32 (words_of (Dotted i))
 words_bytes i name text digits good has counted same = word_more i name text (codes "x" ++ digits) good (rw (has, counted) (ap (λ (t : List ℕ). (codes "x" ++ t) ∷ []) (sym same)))
 

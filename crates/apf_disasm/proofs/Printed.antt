@@ -3,17 +3,18 @@ use Rattle.std.proofs.Common.{◌≡◌, ℕ, ◌+◌, ◌≤◌, List, [], ◌�
 use Rattle.std.specs.Prelude.{OnOk}
 use Rattle.std.proofs.lemmas.List.{drop_at}
 use Rattle.apf_coding.specs.Words.{AreBytes}
-use Rattle.apf_asm.specs.TextLines.{Reads}
+use Rattle.apf_asm.specs.TextLines.{TextReads}
 use Rattle.apf_asm.proofs.TextShapes.{text_shape}
 use Rattle.apf_disasm.specs.declared.listing.Line.{Line}
 use Rattle.apf_disasm.specs.Listing as listing
-use Rattle.apf_disasm.specs.Listing.{Entry, entry_of, Lists, IsListing}
+use Rattle.apf_disasm.specs.Listing.{ListingEntry, entry_of, Lists, IsListing}
 use Rattle.apf_disasm.specs.Printing.{listing_text, AppendsListing}
 use Rattle.apf_disasm.specs.ReadingBack.{ReadsBack}
 use Rattle.apf_disasm.proofs.Entries.{entries_good}
 use Rattle.apf_disasm.proofs.Layouts.{items_of, layout_is, accepted}
 use Rattle.apf_disasm.proofs.Lines.{entries_read}
 use Rattle.apf_disasm.proofs.Lengths.{listing_length}
+use Rattle.apf_base.specs.Limits.{program_limit, text_limit}
 
 pub appends : {E : Type 0} (r : Result (Unit {0}) E) (code old new : List ℕ) (lines : List Line) → IsListing code (map entry_of lines)
     → OnOk r (new ≡ old ++ listing_text (map entry_of lines)) → OnOk r (AppendsListing code old new)
@@ -26,7 +27,7 @@ same_end old a b e = sym (drop_at old a (length old) refl) ∙ ap (drop (length 
 text_is : (code old new text : List ℕ) (p : AppendsListing code old new) → new ≡ old ++ text → text ≡ listing_text p.entries
 text_is code old new text p e = same_end old text (listing_text p.entries) (sym e ∙ p.appended)
 
-few_items : (code : List ℕ) (at : ℕ) (entries : List Entry) → Lists code at entries → length entries + at ≤ length code
+few_items : (code : List ℕ) (at : ℕ) (entries : List ListingEntry) → Lists code at entries → length entries + at ≤ length code
 few_items code at [] l = let end = l in omega arith
 few_items code at (listing.Op place i ∷ rest) l =
     let more = few_items code l.1.0 rest l.1.2 in
@@ -36,14 +37,14 @@ few_items code at (listing.Byte place value ∷ rest) l =
     let more = few_items code (at + 1) rest l.3 in
     omega arith
 
-count_items : (entries : List Entry) → length (items_of entries) ≡ length entries
+count_items : (entries : List ListingEntry) → length (items_of entries) ≡ length entries
 count_items [] = refl
 count_items (e ∷ rest) = let more = count_items rest in omega arith
 
-pub reads_back : (code old new text : List ℕ) → AreBytes code → length code ≤ 65535 → AppendsListing code old new → new ≡ old ++ text → ReadsBack text code
+pub reads_back : (code old new text : List ℕ) → AreBytes code → length code ≤ program_limit → AppendsListing code old new → new ≡ old ++ text → ReadsBack text code
 reads_back code old new text fits long p e =
     let good = entries_good code 0 p.entries fits long p.listed in
-    let read : Reads text (items_of p.entries) = subst (λ (t : List ℕ). Reads t (items_of p.entries)) (sym (text_is code old new text p e)) (entries_read (length code) p.entries long good) in
+    let read : TextReads text (items_of p.entries) = subst (λ (t : List ℕ). TextReads t (items_of p.entries)) (sym (text_is code old new text p e)) (entries_read (length code) p.entries long good) in
     let few = few_items code 0 p.entries p.listed in
     let count = count_items p.entries in
     record {
@@ -55,7 +56,7 @@ reads_back code old new text fits long p e =
       bytes = layout_is code p.entries p.listed;
     }
 
-pub short : (code old new text : List ℕ) → AreBytes code → length code ≤ 65535 → AppendsListing code old new → new ≡ old ++ text → length code ≤ 40000 → length text ≤ 1048576
+pub short : (code old new text : List ℕ) → AreBytes code → length code ≤ program_limit → AppendsListing code old new → new ≡ old ++ text → length code ≤ 40000 → length text ≤ text_limit
 short code old new text fits long p e small =
     let good = entries_good code 0 p.entries fits long p.listed in
     let bound = listing_length code p.entries long p.listed good in

@@ -15,8 +15,9 @@ use Rattle.apf_asm.specs.Refusals.{answer, refusal, too_long}
 use Rattle.apf_asm.proofs.Lengths.{length-piece, length-code}
 use Rattle.apf_asm.proofs.Whole.{first_none, offset-le, jump_fits}
 use Rattle.apf_disasm.specs.Listing as listing
-use Rattle.apf_disasm.specs.Listing.{Entry, Lists, IsListing}
+use Rattle.apf_disasm.specs.Listing.{ListingEntry, Lists, IsListing}
 use Rattle.apf_disasm.specs.Assembled.{IsNoByte, instructions_from, instructions_of}
+use Rattle.apf_base.specs.Limits.{program_limit}
 
 -- an instruction begins behind what stands before its spelling
 begun : (program front rest : List ℕ) (i : Instruction) (at : ℕ) → program ≡ front ++ (spelling i ++ rest) → at ≡ length front → IsWellFormed i → Begins program at i (at + length (spelling i))
@@ -29,14 +30,14 @@ begun program front rest i at parts place good =
     record { order = omega arith; within = omega arith; spells = record { well_formed = good; spelled = spelled } }
 
 -- the instruction of an item stands there, and what follows goes on behind it
-listed_op : (program front rest : List ℕ) (i : Instruction) (at next : ℕ) (later : List Entry) → program ≡ front ++ (spelling i ++ rest) → at ≡ length front → next ≡ at + length (spelling i) → IsWellFormed i → Lists program next later → Lists program at (listing.Op at i ∷ later)
+listed_op : (program front rest : List ℕ) (i : Instruction) (at next : ℕ) (later : List ListingEntry) → program ≡ front ++ (spelling i ++ rest) → at ≡ length front → next ≡ at + length (spelling i) → IsWellFormed i → Lists program next later → Lists program at (listing.Op at i ∷ later)
 listed_op program front rest i at next later parts place after good more =
     (refl, (at + length (spelling i), begun program front rest i at parts place good, subst (λ (n : ℕ). Lists program n later) after more))
 
 behind_is : (program front piece rest : List ℕ) → program ≡ front ++ (piece ++ rest) → program ≡ (front ++ piece) ++ rest
 behind_is program front piece rest parts = parts ∙ sym (append_assoc front piece rest)
 
-pub relisted : (program front : List ℕ) (rest : List Item) (at : ℕ) → length program ≤ 65535 → All IsItemForm rest → All IsNoByte rest → program ≡ front ++ code rest (item_widths rest) → at ≡ length front → Lists program at (instructions_from rest (item_widths rest) (places at rest (item_widths rest)))
+pub relisted : (program front : List ℕ) (rest : List Item) (at : ℕ) → length program ≤ program_limit → All IsItemForm rest → All IsNoByte rest → program ≡ front ++ code rest (item_widths rest) → at ≡ length front → Lists program at (instructions_from rest (item_widths rest) (places at rest (item_widths rest)))
 unfolding code item_widths instructions_from places
 relisted program front [] at long forms none parts place = place ∙ sym (ap length (parts ∙ append-nil front))
 relisted program front (items.Fixed f ∷ rest) at long forms none parts place =
@@ -67,12 +68,12 @@ relisted program front (items.Label l ∷ rest) at long forms none parts place =
     (relisted program front rest at long (All-tail IsItemForm (items.Label l) rest forms) (All-tail IsNoByte (items.Label l) rest none) parts place)
 relisted program front (items.Byte b ∷ rest) at long forms none parts place = absurd (All-head IsNoByte (items.Byte b) rest none)
 
-long_cases : (n : ℕ) (b : Bool) → ltb 65535 n ≡ b → cond b (Some (TooLong n)) None ≡ None → n ≤ 65535
+long_cases : (n : ℕ) (b : Bool) → ltb program_limit n ≡ b → cond b (Some (TooLong n)) None ≡ None → n ≤ program_limit
 long_cases n true t e = absurd cc
-long_cases n false t e = ltb-false 65535 n t
+long_cases n false t e = ltb-false program_limit n t
 
 pub assembled_listed : (xs : List Item) → All IsItemForm xs → All IsNoByte xs → answer xs ≡ None → IsListing (layout xs).bytes (instructions_of xs)
 assembled_listed xs forms none e =
     let parts = first_none (refusal xs) (too_long (length (layout xs).bytes)) e in
-    let long = long_cases (length (layout xs).bytes) (ltb 65535 (length (layout xs).bytes)) refl parts.1 in
+    let long = long_cases (length (layout xs).bytes) (ltb program_limit (length (layout xs).bytes)) refl parts.1 in
     relisted (layout xs).bytes [] xs 0 long forms none refl refl

@@ -6,12 +6,12 @@ ghost use Rattle.apf_asm.specs.Items.{IsItemForm};
 ghost use Rattle.apf_asm.specs.Layout.{layout};
 ghost use Rattle.apf_asm.specs.Refusals.{answer};
 ghost use Rattle.apf_disasm.specs.Assembled.{IsNoByte, instructions_of};
-ghost use Rattle.apf_disasm.specs.Listing.{Entry, IsListing};
+ghost use Rattle.apf_disasm.specs.Listing.{ListingEntry, IsListing};
 
 /// Each code has one listing.
 pub fn listings_are_determined()
-    ensures some { (code : List ℕ) → ((k : ℕ) → slice_index code k < 256) → (entries : List Entry) × IsListing code entries }
-    ensures one { (code : List ℕ) (first second : List Entry) → IsListing code first → IsListing code second → first ≡ second }
+    ensures some { (code : List ℕ) → ((k : ℕ) → slice_index code k < 256) → (entries : List ListingEntry) × IsListing code entries }
+    ensures one { (code : List ℕ) (first second : List ListingEntry) → IsListing code first → IsListing code second → first ≡ second }
 {}
 
 /// A code that was assembled from items without bytes as they stand is listed as their instructions, each at its place.

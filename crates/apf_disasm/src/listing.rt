@@ -3,6 +3,7 @@
 ghost use Rattle.std.specs.Prelude.{◌≡◌, ◌≤◌, length, map, All, IfOk};
 ghost use Rattle.apf_disasm.specs.Listing.{entry_of, IsListing};
 ghost use Rattle.apf_disasm.specs.Printing.{IsReadable};
+ghost use Rattle.apf_base.specs.Limits.{program_limit};
 
 use apf_base::{List, OutOfMemory};
 use apf_coding::{Instr, decode};
@@ -20,7 +21,7 @@ pub enum Line<'a> {
 /// The lines of a code. From its first byte on, an instruction that begins is a line, and the next line is at its end.
 /// Where none begins the byte is a line.
 pub fn list(alloc: Global, code: &[u8]) -> Result<List<Line<'_>>, OutOfMemory>
-    requires { length code.now ≤ 65535 }
+    requires { length code.now ≤ program_limit }
     ensures listing { IfOk result (λ lines. IsListing code.now (map entry_of lines)) }
     // Each line can be written as text.
     ensures readable { IfOk result (λ lines. All IsReadable lines) }

@@ -9,6 +9,7 @@ ghost use Rattle.apf_asm.specs.TextForms.{Dotted, words_of};
 ghost use Rattle.apf_disasm.specs.Listing.{entry_of};
 ghost use Rattle.apf_disasm.specs.Printing.{AppendsListing, IsReadable, line_text, listing_text};
 ghost use Rattle.apf_disasm.specs.ReadingBack.{ReadsBack};
+ghost use Rattle.apf_base.specs.Limits.{program_limit, text_limit};
 
 use crate::listing::{Line, list};
 use apf_base::{List, OutOfMemory};
@@ -75,7 +76,7 @@ fn append_lines(alloc: Global, lines: &[Line<'_>], out: &mut List<u8>) -> Result
 }
 
 fn append(alloc: Global, code: &[u8], out: &mut List<u8>) -> Result<(), OutOfMemory>
-    requires { length code.now ≤ 65535 }
+    requires { length code.now ≤ program_limit }
     ensures ok { OnOk result (AppendsListing code.now out.old out.new) }
     ensures err { OnErr result (Extends out.old out.new) }
 {
@@ -85,14 +86,14 @@ fn append(alloc: Global, code: &[u8], out: &mut List<u8>) -> Result<(), OutOfMem
 
 /// Appends the text of a code's listing, a line for each entry. An `Err` changes nothing.
 pub fn print(alloc: Global, code: &[u8], out: &mut List<u8>) -> Result<(), OutOfMemory>
-    requires { length code.now ≤ 65535 }
+    requires { length code.now ≤ program_limit }
     // What is appended is the text of the listing.
     ensures ok { OnOk result (AppendsListing code.now out.old out.new) }
     ensures err { OnErr result (out.new ≡ out.old) }
     // It is read as items that are assembled to the code.
     ensures reads_back { OnOk result ((text : Items ℕ) → out.new ≡ out.old ++ text → ReadsBack text code.now) }
     // A code of at most 40,000 bytes has a listing that can be read.
-    ensures short { OnOk result ((text : Items ℕ) → out.new ≡ out.old ++ text → length code.now ≤ 40000 → length text ≤ 1048576) }
+    ensures short { OnOk result ((text : Items ℕ) → out.new ≡ out.old ++ text → length code.now ≤ 40000 → length text ≤ text_limit) }
 {
     let before = out.len();
     let result = append(alloc, code, out);

@@ -11,7 +11,7 @@ use Rattle.apf_coding.specs.declared.machine.Why.TheVariants as whys
 use Rattle.apf_coding.specs.Run.{Run, run, ended, first_state}
 use Rattle.apf_asm.specs.declared.item.Item.{Item}
 use Rattle.apf_asm.specs.declared.item.Target.TheVariants as targets
-use Rattle.apf_asm.specs.Items.{IsItemForm, IsLabelled}
+use Rattle.apf_asm.specs.Items.{IsItemForm, IsLabelled, item_limit}
 use Rattle.apf_asm.specs.Flow.{flow}
 use Rattle.apf_asm.specs.Layout.{layout}
 use Rattle.apf_asm.specs.Refusals.{stands, refusal}
@@ -26,7 +26,7 @@ use Rattle.policy_state.specs.Policy.{questions}
 use Rattle.policy_state.specs.Whole.{Short, fate_of}
 use Rattle.policy_state.proofs.Verdicts.{questions-answer}
 use Rattle.apf_asm.specs.Building.{fixed}
-use Rattle.apf_asm.specs.Saying.{End, end_of}
+use Rattle.apf_asm.specs.Saying.{End, flow_end}
 use Rattle.apf_asm.specs.Fragment.{IsApart, AreFresh, IsPart, labels}
 use Rattle.apf_asm.proofs.Forms.{IsSound, forms_of, label_form_of, sound-byte, labels-append, form-fixed, form-jump}
 use Rattle.apf_asm.proofs.Parts.{length-items, sound-fragment, wide-append}
@@ -36,6 +36,8 @@ use Rattle.apf_generate.specs.Program.{asked}
 use Rattle.apf_generate.specs.Listing.{opening_items, end_items, between_ends}
 use Rattle.apf_generate.proofs.Raising.{on-raising}
 use Rattle.apf_generate.proofs.Ends.{IsEnd, ended_as, ready_first, fate_from}
+use Rattle.apf_base.specs.Limits.{memory_size, program_limit}
+use Rattle.policy_state.specs.Rooms.{ends_room}
 
 -- ---- labels
 
@@ -98,29 +100,29 @@ module _ (basis : Basis) (to most : ℕ) (xs : List Item) (part : IsPart (asked 
   unfolding stands
   not_refused = none_refused (between_ends xs) [] 0 leads (subst (λ (ls : List ℕ). AllApart ls) (sym labels-are) (all_apart-ends to (labels xs) part.form.fresh)) (λ l there. refl)
 
-  pub few_items : to ≤ 100000 → length (between_ends xs) ≤ 1048576
+  pub few_items : to ≤ 100000 → length (between_ends xs) ≤ item_limit
   few_items le = omega (arith, length-items xs, part.form.short, part.form.drawn, length-append xs end_items)
 
   abbrev pub bytes : List ℕ
   bytes = (layout (between_ends xs)).bytes
 
-  pub length-bytes : length bytes ≤ most + 28
+  pub length-bytes : length bytes ≤ most + ends_room
   length-bytes = omega (arith, length-code-le (between_ends xs), wide-append (opening_items ++ xs) end_items, wide-append opening_items xs, part.form.short)
 
-  ends : (age : ℕ) (frame memory : List ℕ) → 14 < length frame → ((k : ℕ) → slice_index frame k < 256) → length memory ≡ 128
-      → IsEnd (fate_of (first_of (questions basis age frame))) (raised TotalPackets memory) (end_of (flow (between_ends xs) (length bytes) frame (first_state bytes memory frame age)))
+  ends : (age : ℕ) (frame memory : List ℕ) → 14 < length frame → ((k : ℕ) → slice_index frame k < 256) → length memory ≡ memory_size
+      → IsEnd (fate_of (first_of (questions basis age frame))) (raised TotalPackets memory) (flow_end (flow (between_ends xs) (length bytes) frame (first_state bytes memory frame age)))
   ends age frame memory long bytes_in len =
       let n = length bytes in
-      let le : length bytes ≤ 65535 = omega (arith, length-bytes) in
+      let le : length bytes ≤ program_limit = omega (arith, length-bytes) in
       let first = first_state bytes memory frame age in
       let raising = on-raising n frame first TotalPackets 252 0 0 (xs ++ end_items) le len refl in
       let told = part.tells.tells n frame age _ end_items (ready_first n age frame bytes memory _ long bytes_in refl len) in
       subst (λ (end : End). IsEnd (fate_of (first_of (questions basis age frame))) (raised TotalPackets memory) end) (sym raising)
       (ended_as n frame _ (first_of (questions basis age frame)) _ (questions-answer basis age frame) le (length-raised TotalPackets memory len) told)
 
-  long_frame : (age : ℕ) (frame memory : List ℕ) → 14 < length frame → ((k : ℕ) → slice_index frame k < 256) → length memory ≡ 128 → HasFate (fate_of (first_of (questions basis age frame))) memory (run bytes memory frame age)
+  long_frame : (age : ℕ) (frame memory : List ℕ) → 14 < length frame → ((k : ℕ) → slice_index frame k < 256) → length memory ≡ memory_size → HasFate (fate_of (first_of (questions basis age frame))) memory (run bytes memory frame age)
   long_frame age frame memory long bytes_in len =
-      let le : length bytes ≤ 65535 = omega (arith, length-bytes) in
+      let le : length bytes ≤ program_limit = omega (arith, length-bytes) in
       subst (λ (r : Run). HasFate (fate_of (first_of (questions basis age frame))) memory r)
       (sym (runs_as (between_ends xs) forms labelled not_refused le memory frame age long))
       (fate_from (layout (between_ends xs)).places memory (flow (between_ends xs) (length bytes) frame (first_state bytes memory frame age)) _ (ends age frame memory long bytes_in len))
@@ -133,7 +135,7 @@ module _ (basis : Basis) (to most : ℕ) (xs : List Item) (part : IsPart (asked 
   unfolding run
   short_frame age frame memory e = short_run age frame memory (ltb 14 (length frame)) _ e
 
-  any_frame : (age : ℕ) (frame memory : List ℕ) (b : Bool) → ltb 14 (length frame) ≡ b → ((k : ℕ) → slice_index frame k < 256) → length memory ≡ 128 → HasFate (cond b (fate_of (first_of (questions basis age frame))) Short) memory (run bytes memory frame age)
+  any_frame : (age : ℕ) (frame memory : List ℕ) (b : Bool) → ltb 14 (length frame) ≡ b → ((k : ℕ) → slice_index frame k < 256) → length memory ≡ memory_size → HasFate (cond b (fate_of (first_of (questions basis age frame))) Short) memory (run bytes memory frame age)
   any_frame age frame memory true e bytes_in len = long_frame age frame memory (grind (arith, nat_tests)) bytes_in len
   any_frame age frame memory false e bytes_in len = short_frame age frame memory e
 

@@ -18,9 +18,10 @@ use Rattle.policy_state.proofs.Rulings.{rulings, said-otherwise}
 use Rattle.size_fit.specs.Sizes.{weight}
 use Rattle.apf_generate.specs.Program.{AddsRecords}
 use Rattle.apf_generate.specs.Sizes.{weights}
+use Rattle.policy_state.specs.Weights.{record_weight}
 
 -- each record weighs at least 29
-pub records_few : (chosen : List Chosen) → 29 * length chosen ≤ weights chosen
+pub records_few : (chosen : List Chosen) → record_weight * length chosen ≤ weights chosen
 records_few [] = omega arith
 records_few (one ∷ chosen) = omega (arith, records_few chosen, sum_by-cons (λ (one : Chosen). weight one.advert) one chosen)
 

@@ -25,9 +25,9 @@ use Rattle.policy_state.specs.Rulings.{said_of}
 use Rattle.apf_coding.specs.Said.{Said}
 use Rattle.apf_asm.proofs.Parts.{part-then, part-same}
 use Rattle.policy_state.proofs.Rulings.{said-otherwise}
-use Rattle.arp_rules.specs.Listing.{link_items, arp_items, IsInRange}
+use Rattle.arp_rules.specs.Listing.{link_items, arp_items, IsAddressInRange}
 use Rattle.arp_rules.proofs.Emitted.{link_emitted, arp_emitted}
-use Rattle.ip_rules.specs.Ip4Listing.{slots_items, segment_items, ip4_items, IsInRange as IsNetInRange}
+use Rattle.ip_rules.specs.Ip4Listing.{slots_items, segment_items, ip4_items, IsNetInRange as IsNetInRange}
 use Rattle.ip_rules.specs.Ip6Listing.{ip6_items}
 use Rattle.ip_rules.proofs.Ip4Emitted.{ip4_emitted}
 use Rattle.ip_rules.proofs.Ip6Emitted.{ip6_emitted}
@@ -43,10 +43,12 @@ use Rattle.apf_generate.proofs.Generated.{code_bytes, code_means, code_short}
 use Rattle.apf_generate.proofs.Ip6Question.{ip6_added}
 use Rattle.apf_generate.proofs.Joined.{joined}
 use Rattle.apf_generate.proofs.RaForm.{ra_emitted}
+use Rattle.policy_state.specs.Rooms.{arp_room, ip4_room, link_room}
+use Rattle.policy_state.specs.Weights.{denied_weight, keepalive_weight}
 
 -- ---- what the fragments ask of a basis
 
-address_fits : (address : Option Address) → IfSome address IsAddress → IsInRange address
+address_fits : (address : Option Address) → IfSome address IsAddress → IsAddressInRange address
 address_fits None h = tt
 address_fits (Some address) h = h.ip
 
@@ -66,7 +68,7 @@ net_fits (Some address) h = λ lt. or_of_32 address.ip (2 ^ (32 - address.prefix
 record Answers (basis : Basis) (next : ℕ) : Type 0 where
   label : ℕ
   answers : List Item
-  emits : Emits (λ age frame. said_of (keepalive_answers basis frame)) (80 * count_by is_some basis.state.keepalives) next label [] answers
+  emits : Emits (λ age frame. said_of (keepalive_answers basis frame)) (keepalive_weight * count_by is_some basis.state.keepalives) next label [] answers
   few : label ≤ next + 9
 
 keepalives_by : (any : Bool) (basis : Basis) (next : ℕ) → 2 ≤ next → length basis.state.keepalives ≡ 8 → list_any is_some basis.state.keepalives ≡ any → Answers basis next
@@ -125,10 +127,10 @@ module _ (basis : Basis) (h : IsBasis basis) (fits : need_of basis ≤ limit_of 
   abbrev arp_list : List Item
   arp_list = link_list ++ arp_items 2 basis.state.address
 
-  link_there : Emits (λ age frame. said_of (link basis frame)) (20 + 9 * length basis.config.deny) 2 2 opening_items link_list
+  link_there : Emits (λ age frame. said_of (link basis frame)) (link_room + denied_weight * length basis.config.deny) 2 2 opening_items link_list
   link_there = link_emitted basis 2 opening_items link_list refl h.config.deny
 
-  arp_there : Emits (λ age frame. said_of (arp basis frame)) 112 2 4 link_list arp_list
+  arp_there : Emits (λ age frame. said_of (arp basis frame)) arp_room 2 4 link_list arp_list
   arp_there = arp_emitted basis 2 4 link_list arp_list refl (address_fits basis.state.address h.state.address) (lit≤ tt) refl
 
   keepalives : Answers basis 4
@@ -141,7 +143,7 @@ module _ (basis : Basis) (h : IsBasis basis) (fits : need_of basis ≤ limit_of 
   abbrev ip4_list : List Item
   ip4_list = arp_list ++ ip4_items basis keepalives.label keepalives.answers
 
-  ip4_there : Emits (λ age frame. said_of (ip4 basis frame)) (160 + 80 * count_by is_some basis.state.keepalives) 4 over arp_list ip4_list
+  ip4_there : Emits (λ age frame. said_of (ip4 basis frame)) (ip4_room + keepalive_weight * count_by is_some basis.state.keepalives) 4 over arp_list ip4_list
   ip4_there =
       ip4_emitted basis 4 keepalives.label [] keepalives.answers arp_list ip4_list refl (lit≤ tt) keepalives.emits
       (λ on. h.config.mac) (λ on. net_fits basis.state.address h.state.address) refl keepalives.few

@@ -3,7 +3,7 @@ use Rattle.std.proofs.Common.{◌≡◌, ℕ, ◌+◌, ◌≤◌, List, length, 
 use Rattle.std.specs.Prelude.{All}
 use Rattle.apf_asm.specs.declared.item.AsmError.{AsmError}
 use Rattle.apf_asm.specs.declared.item.Item.{Item}
-use Rattle.apf_asm.specs.Items.{IsItemForm}
+use Rattle.apf_asm.specs.Items.{IsItemForm, item_limit}
 use Rattle.apf_asm.specs.Layout.{layout}
 use Rattle.apf_asm.specs.Refusals.{refusal, IsOverlong}
 use Rattle.policy_state.specs.declared.basis.Basis.{Basis}
@@ -15,16 +15,18 @@ use Rattle.apf_generate.specs.Sizes.{need_of}
 use Rattle.size_fit.specs.Sizes.{limit_of}
 use Rattle.apf_generate.proofs.AnyProgram.{forms, labelled, few_items, length-bytes, means_of, not_refused}
 use Rattle.apf_generate.proofs.LayoutBytes.{bytes-layout}
+use Rattle.policy_state.specs.Limits.{capacity_most, denied_most}
+use Rattle.policy_state.specs.Rooms.{ends_room}
 
-module _ (basis : Basis) (xs : List Item) (few : length basis.config.deny ≤ 32) (most : basis.config.capacity ≤ 8192) (p : IsProgram basis xs) (fits : need_of basis ≤ limit_of basis.config) where
+module _ (basis : Basis) (xs : List Item) (few : length basis.config.deny ≤ denied_most) (most : basis.config.capacity ≤ capacity_most) (p : IsProgram basis xs) (fits : need_of basis ≤ limit_of basis.config) where
   small : most_asked basis ≤ 65000
   small = omega (arith, few, most, fits)
 
   pub items_formed : All IsItemForm xs
   items_formed = subst (λ (ys : List Item). All IsItemForm ys) (sym p.whole) (forms basis p.holds.to _ p.questions p.holds.part small)
 
-  pub items_few : length xs ≤ 1048576
-  items_few = subst (λ (ys : List Item). length ys ≤ 1048576) (sym p.whole) (few_items basis p.holds.to _ p.questions p.holds.part small p.holds.few)
+  pub items_few : length xs ≤ item_limit
+  items_few = subst (λ (ys : List Item). length ys ≤ item_limit) (sym p.whole) (few_items basis p.holds.to _ p.questions p.holds.part small p.holds.few)
 
   code_is : (code : List ℕ) → code ≡ (layout xs).bytes → code ≡ (layout (between_ends p.questions)).bytes
   code_is code e = e ∙ ap (λ (ys : List Item). (layout ys).bytes) p.whole
@@ -32,7 +34,7 @@ module _ (basis : Basis) (xs : List Item) (few : length basis.config.deny ≤ 32
   pub code_means : (code : List ℕ) → code ≡ (layout xs).bytes → Means code basis
   code_means code e = subst (λ (c : List ℕ). Means c basis) (sym (code_is code e)) (means_of basis p.holds.to _ p.questions p.holds.part small)
 
-  length-code : (code : List ℕ) → code ≡ (layout xs).bytes → length code ≤ most_asked basis + 28
+  length-code : (code : List ℕ) → code ≡ (layout xs).bytes → length code ≤ most_asked basis + ends_room
   length-code code e = omega (arith, ap length (code_is code e), length-bytes basis p.holds.to _ p.questions p.holds.part small)
 
   pub code_short : (code : List ℕ) → code ≡ (layout xs).bytes → length code ≤ need_of basis

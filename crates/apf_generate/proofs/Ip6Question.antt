@@ -25,7 +25,7 @@ use Rattle.apf_asm.specs.Building.{load, jump_if}
 use Rattle.apf_asm.specs.Fragment.{AreFresh, IsFragment, IsPart, Emits, labels}
 use Rattle.policy_state.specs.Rulings.{said_of}
 use Rattle.apf_coding.specs.Said.{Said}
-use Rattle.apf_asm.specs.Saying.{Tells}
+use Rattle.apf_asm.specs.Saying.{TellsSaid}
 use Rattle.apf_coding.proofs.Language.{said_first}
 use Rattle.apf_asm.proofs.Forms.{IsSound, stands-here, labels-append, sound-nil, sound-append, sound-byte, sound-if_label, sound-jump_end, sound-label, sound-count}
 use Rattle.apf_asm.proofs.Parts.{fragment-of, sound-fragment, fresh-away, fresh-over, wide-append, part-same, part-then, part-yields}
@@ -34,10 +34,11 @@ use Rattle.policy_state.proofs.Rulings.{rulings, said-otherwise, has_word}
 use Rattle.apf_generate.specs.Listing.{ip6_test_items, ip6_last_items, ip6_items}
 use Rattle.apf_generate.specs.Program.{AddsRecords, AddsIp6}
 use Rattle.apf_generate.specs.Sizes.{weights}
+use Rattle.policy_state.specs.Rooms.{ip6_header_room, ip6_room}
 
 -- ---- the rules, and the packets that none of them answers
 
-last_tell : Tells (λ age frame. said_of other_icmp6) ip6_last_items
+last_tell : TellsSaid (λ age frame. said_of other_icmp6) ip6_last_items
 last_tell = told rulings (λ age frame. other_icmp6) _ (λ n frame age m ready.
     counts rulings n frame m m.r0 m.r1 PassedIpv6Icmp _ _
     (answers rulings n frame m m.r0 Pass PassedIpv6Icmp _ _ (done rulings n frame m m.r0 _)))
@@ -78,7 +79,7 @@ module _ (basis : Basis) (over to most : ℕ) (xs : List Item) (low : 2 ≤ over
   abbrev whole : List Item
   whole = ip6_test_items over ++ (xs ++ (items.Label over ∷ []))
 
-  question_tells : Tells (λ age frame. said_of (ip6 basis age frame)) whole
+  question_tells : TellsSaid (λ age frame. said_of (ip6 basis age frame)) whole
   question_tells = told rulings (λ age frame. ip6 basis age frame) _ (λ n frame age m ready.
       restated rulings n frame m m.r0 m.r1 _ _ _ (question_same (ethertype frame) (ip6_lines basis age frame))
       (reads_half rulings n frame m m.r0 m.r1 1 12 _ _ (ethertype frame) (number_seen frame 12 2) (λ e.
@@ -117,17 +118,17 @@ chained : (f t g r u k x1 x2 x3 x4 x5 : List Item) → x1 ≡ f ++ t → x2 ≡ 
 chained f t g r u k x1 x2 x3 x4 x5 p q s a b = cc
 
 pub ip6_added : (basis : Basis) (over mid to : ℕ) (chosen : List Chosen) (old x1 x2 x3 x4 new : List Item) → 2 ≤ over → x1 ≡ old ++ ip6_test_items over
-    → Emits (λ age frame. said_of (ip6_header_lines basis frame)) 124 (over + 1) mid x1 x2
+    → Emits (λ age frame. said_of (ip6_header_lines basis frame)) ip6_header_room (over + 1) mid x1 x2
     → chosen ≡ basis.chosen → AddsRecords chosen mid to x2 x3
     → x4 ≡ x3 ++ ip6_last_items → new ≡ x4 ++ items.Label over ∷ []
     → AddsIp6 basis over to old new
 ip6_added basis over mid to chosen old x1 x2 x3 x4 new low p rules is found r s =
     let records : AddsRecords basis.chosen mid to x2 x3 = subst (λ (cs : List Chosen). AddsRecords cs mid to x2 x3) is found in
-    let lines = lines_part basis (over + 1) mid to 124 (weights basis.chosen) rules.fragment records.rules (omega arith) rules.part records.part in
+    let lines = lines_part basis (over + 1) mid to ip6_header_room (weights basis.chosen) rules.fragment records.rules (omega arith) rules.part records.part in
     record {
       question = ip6_items over rules.fragment records.rules;
       appended = chained old (ip6_test_items over) rules.fragment records.rules ip6_last_items (items.Label over ∷ []) x1 x2 x3 x4 new p rules.appended records.appended r s
           ∙ regrouped old (ip6_test_items over) rules.fragment records.rules ip6_last_items (items.Label over ∷ []);
-      part = part-same _ _ over to _ (142 + weights basis.chosen) _ (λ age frame. refl) (omega arith) (question_part basis over to (124 + weights basis.chosen + 7) (rules.fragment ++ (records.rules ++ ip6_last_items)) low lines);
+      part = part-same _ _ over to _ (ip6_room + weights basis.chosen) _ (λ age frame. refl) (omega arith) (question_part basis over to (ip6_header_room + weights basis.chosen + 7) (rules.fragment ++ (records.rules ++ ip6_last_items)) low lines);
       few = omega (arith, rules.few, records.few);
     }

@@ -17,6 +17,8 @@ use Rattle.apf_generate.specs.Listing.{opening_items, last_items, end_items}
 use Rattle.apf_generate.specs.Program.{asked, most_asked, AddsIp6, IsProgram}
 use Rattle.apf_generate.specs.Sizes.{weights}
 use Rattle.apf_generate.proofs.Others.{others_part}
+use Rattle.policy_state.specs.Rooms.{arp_room, ip4_room, ip6_room, last_room, link_room}
+use Rattle.policy_state.specs.Weights.{denied_weight, keepalive_weight}
 
 -- what is said question by question is what all questions say
 all_said : (a b c d e : Ruling) → said_first (said_of a) (said_first (said_of b) (said_first (said_of c) (said_first (said_of d) (said_of e)))) ≡ said_of (otherwise a (otherwise b (otherwise c (otherwise d (otherwise e Silent)))))
@@ -38,9 +40,9 @@ chained : (o f g i h k e x0 x1 x2 x3 x4 x5 x6 : List Item) → x0 ≡ o → x1 �
 chained o f g i h k e x0 x1 x2 x3 x4 x5 x6 start p q r s t u = cc
 
 pub joined : (basis : Basis) (two three four to : ℕ) (x0 x1 x2 x3 x4 x5 x6 : List Item) → x0 ≡ opening_items
-    → Emits (λ age frame. said_of (link basis frame)) (20 + 9 * length basis.config.deny) 2 two x0 x1
-    → Emits (λ age frame. said_of (arp basis frame)) 112 two three x1 x2
-    → Emits (λ age frame. said_of (ip4 basis frame)) (160 + 80 * count_by is_some basis.state.keepalives) three four x2 x3
+    → Emits (λ age frame. said_of (link basis frame)) (link_room + denied_weight * length basis.config.deny) 2 two x0 x1
+    → Emits (λ age frame. said_of (arp basis frame)) arp_room two three x1 x2
+    → Emits (λ age frame. said_of (ip4 basis frame)) (ip4_room + keepalive_weight * count_by is_some basis.state.keepalives) three four x2 x3
     → AddsIp6 basis four to x3 x4
     → x5 ≡ x4 ++ last_items → x6 ≡ x5 ++ end_items → length basis.chosen ≤ 1000 → IsProgram basis x6
 joined basis two three four to x0 x1 x2 x3 x4 x5 x6 start first second third fifth last ends records =
@@ -48,12 +50,12 @@ joined basis two three four to x0 x1 x2 x3 x4 x5 x6 start first second third fif
     let from_three : two ≤ three = second.part.form.rises in
     let from_four : three ≤ four = third.part.form.rises in
     let n = length basis.config.deny in
-    let a = 160 + 80 * count_by is_some basis.state.keepalives in
+    let a = ip4_room + keepalive_weight * count_by is_some basis.state.keepalives in
     let w = weights basis.chosen in
-    let from_ip6 = part-then _ _ four to to (142 + w) 26 fifth.question last_items (omega arith) fifth.part (others_part to) in
-    let from_ip4 = part-then _ _ three four to a (142 + w + 26) third.fragment (fifth.question ++ last_items) (omega arith) third.part from_ip6 in
-    let from_arp = part-then _ _ two three to 112 (a + (142 + w + 26)) second.fragment (third.fragment ++ (fifth.question ++ last_items)) from_two second.part from_ip4 in
-    let all = part-then _ _ 2 two to (20 + 9 * n) (112 + (a + (142 + w + 26))) first.fragment (second.fragment ++ (third.fragment ++ (fifth.question ++ last_items))) (omega arith) first.part from_arp in
+    let from_ip6 = part-then _ _ four to to (ip6_room + w) last_room fifth.question last_items (omega arith) fifth.part (others_part to) in
+    let from_ip4 = part-then _ _ three four to a (ip6_room + w + last_room) third.fragment (fifth.question ++ last_items) (omega arith) third.part from_ip6 in
+    let from_arp = part-then _ _ two three to arp_room (a + (ip6_room + w + last_room)) second.fragment (third.fragment ++ (fifth.question ++ last_items)) from_two second.part from_ip4 in
+    let all = part-then _ _ 2 two to (link_room + denied_weight * n) (arp_room + (a + (ip6_room + w + last_room))) first.fragment (second.fragment ++ (third.fragment ++ (fifth.question ++ last_items))) (omega arith) first.part from_arp in
     record {
       questions = first.fragment ++ (second.fragment ++ (third.fragment ++ (fifth.question ++ last_items)));
       holds = record {

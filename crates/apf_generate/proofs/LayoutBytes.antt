@@ -6,7 +6,7 @@ use Rattle.apf_coding.specs.declared.instruction.Op.{Op}
 use Rattle.apf_coding.specs.declared.instruction.Op.TheVariants.{Ldb}
 use Rattle.apf_coding.specs.Words.{big_endian, AreBytes}
 use Rattle.apf_coding.specs.Widths.{least_unsigned}
-use Rattle.apf_coding.specs.Instruction.{Instruction, number_of, has_second, is_counted}
+use Rattle.apf_coding.specs.Instruction.{Instruction, opcode_of, has_second, is_counted}
 use Rattle.apf_coding.specs.Spelling.{IsWidth, size_of, first_byte, second_of, counted_of, spelling}
 use Rattle.apf_coding.proofs.Widths.{least-width, max-width}
 use Rattle.apf_asm.specs.declared.item.Item.{Item}
@@ -38,7 +38,7 @@ bytes-big_endian (suc width) n = bytes-cons _ (big_endian width n) (omega arith)
 
 -- ---- items
 
-number_of-le : (op : Op) → number_of op ≤ 23
+number_of-le : (op : Op) → opcode_of op ≤ 23
 number_of-le Ldb = lit≤ tt
 number_of-le _ = lit≤ tt
 

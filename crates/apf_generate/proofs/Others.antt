@@ -12,7 +12,7 @@ use Rattle.policy_state.specs.Ethernet.{destination, broadcast}
 use Rattle.policy_state.specs.Policy.{others}
 use Rattle.policy_state.proofs.FieldsSeen.{bytes_seen}
 use Rattle.apf_asm.specs.Fragment.{IsPart, labels}
-use Rattle.apf_asm.specs.Saying.{Tells}
+use Rattle.apf_asm.specs.Saying.{TellsSaid}
 use Rattle.apf_asm.proofs.Forms.{IsSound, bytes_fit, sound-nil, sound-byte, sound-jump_end, sound-unless_end, sound-count}
 use Rattle.apf_asm.proofs.Parts.{fragment-of}
 use Rattle.apf_asm.proofs.Rules.{done, restated, counts, places, answers, answers_unless, told}
@@ -33,7 +33,7 @@ last_same (Some there) = cond-not (bytes_eq there broadcast) _ _
 
 -- ---- the items come to them
 
-others_tell : Tells (λ age frame. said_of (others frame)) last_items
+others_tell : TellsSaid (λ age frame. said_of (others frame)) last_items
 others_tell = told rulings (λ age frame. others frame) _ (λ n frame age m ready.
     restated rulings n frame m m.r0 m.r1 _ _ _ (last_same (destination frame))
     (places rulings n frame m m.r0 m.r1 1 0 _ _ (lit< tt)

@@ -13,7 +13,7 @@ use Rattle.apf_asm.specs.Layout.{wide_size, wide_length}
 use Rattle.data_counters.specs.declared.counter.Counter.TheVariants.{DroppedRa}
 use Rattle.data_counters.specs.Counters.{number_of}
 use Rattle.ra_records.specs.declared.span.Span.{Span}
-use Rattle.ra_records.specs.Masks.{IsWithin, IsNumber}
+use Rattle.ra_records.specs.Masks.{IsSpanWithin, IsNumber}
 use Rattle.ra_records.specs.Advert.{masks, sections, IsSound as IsRecord}
 use Rattle.ra_records.proofs.Rising.{masks_rise, between_within, numbers}
 use Rattle.policy_state.specs.declared.basis.Chosen.{Chosen}
@@ -60,7 +60,7 @@ sound-lifetimes away hold end (s ∷ ss) lt short h =
     (sound-if_label Jlt hold away _ refl lt (stands-here away (flat_map (lifetime_items away hold) ss ++ dropping_items) [])
     (sound-lifetimes away hold end ss lt short h.1))
 
-sound-sections : (away : ℕ) (bytes : List ℕ) (ss : List Span) (tail : List Item) → length bytes ≤ 1514 → ((k : ℕ) → slice_index bytes k < 256) → AllByRecursion (IsWithin (length bytes)) ss → IsSound (tail ++ (items.Label away ∷ []))
+sound-sections : (away : ℕ) (bytes : List ℕ) (ss : List Span) (tail : List Item) → length bytes ≤ 1514 → ((k : ℕ) → slice_index bytes k < 256) → AllByRecursion (IsSpanWithin (length bytes)) ss → IsSound (tail ++ (items.Label away ∷ []))
     → IsSound ((flat_map (section_items away bytes) ss ++ tail) ++ (items.Label away ∷ []))
 sound-sections away bytes [] tail short each h s = s
 sound-sections away bytes (x ∷ ss) tail short each h s =
@@ -69,7 +69,7 @@ sound-sections away bytes (x ∷ ss) tail short each h s =
     (stands-here away (flat_map (section_items away bytes) ss ++ tail) [])
     (sound-sections away bytes ss tail short each h.1 s))
 
-all_within : (c : Chosen) → IsRecord c.advert.bytes c.advert.lifetimes → AllByRecursion (IsWithin (length c.advert.bytes)) (sections c.advert)
+all_within : (c : Chosen) → IsRecord c.advert.bytes c.advert.lifetimes → AllByRecursion (IsSpanWithin (length c.advert.bytes)) (sections c.advert)
 all_within c h = between_within (masks c.advert.lifetimes) 0 (length c.advert.bytes) (masks_rise c.advert.bytes c.advert.lifetimes h)
 
 sound-ra : (away : ℕ) (c : Chosen) → c.hold < 2 ^ 32 → ((k : ℕ) → slice_index c.advert.bytes k < 256) → IsRecord c.advert.bytes c.advert.lifetimes → IsSound (ra_items away c)
@@ -98,7 +98,7 @@ wide-lifetimes away hold (s ∷ ss) =
       wide-lifetimes away hold ss,
     )
 
-wide-sections : (away : ℕ) (bytes : List ℕ) (ss : List Span) → AllByRecursion (IsWithin (length bytes)) ss → wide_length (flat_map (section_items away bytes) ss) ≡ sum_by section_weight ss
+wide-sections : (away : ℕ) (bytes : List ℕ) (ss : List Span) → AllByRecursion (IsSpanWithin (length bytes)) ss → wide_length (flat_map (section_items away bytes) ss) ≡ sum_by section_weight ss
 wide-sections away bytes [] h = refl
 wide-sections away bytes (s ∷ ss) h =
     omega (

@@ -12,9 +12,9 @@ use Rattle.apf_asm.specs.declared.item.Item.TheVariants as items
 use Rattle.apf_asm.specs.declared.item.Target.TheVariants as targets
 use Rattle.apf_asm.specs.Refusals.{stands}
 use Rattle.data_counters.specs.declared.counter.Counter.TheVariants.{DroppedRa}
-use Rattle.frame_views.specs.Fields.{value_of, field, part}
+use Rattle.frame_views.specs.Fields.{bytes_value, field, part}
 use Rattle.ra_records.specs.declared.span.Span.{Span}
-use Rattle.ra_records.specs.Masks.{is_equal, same_outside, IsWithin, IsNumber}
+use Rattle.ra_records.specs.Masks.{is_equal, same_outside, IsSpanWithin, IsNumber}
 use Rattle.ra_records.specs.Advert.{same, masks, sections, sections_of, number_in, is_number, IsSound}
 use Rattle.ra_records.proofs.Sections.{same-sections}
 use Rattle.ra_records.proofs.Rising.{masks_rise, between_within, numbers}
@@ -25,7 +25,7 @@ use Rattle.policy_state.specs.Asking.{reading, when}
 use Rattle.policy_state.specs.Records.{lasts, advertised_again}
 use Rattle.policy_state.proofs.FieldsSeen.{number_seen, bytes_seen}
 use Rattle.apf_asm.specs.Building.{fixed, jump_if}
-use Rattle.apf_asm.specs.Saying.{Tells}
+use Rattle.apf_asm.specs.Saying.{TellsSaid}
 use Rattle.policy_state.specs.Rulings.{said_of}
 use Rattle.apf_asm.proofs.Rules.{Yields, done, restated, counts, places, reads_half, reads_word, recalls_0, answers, leaves_if, leaves_unless, labelled, told}
 use Rattle.policy_state.proofs.Rulings.{rulings}
@@ -72,9 +72,9 @@ when_and : (a b : Bool) (r : Ruling) → when a (when b r) ≡ when (a && b) r
 when_and true b r = refl
 when_and false b r = refl
 
-number_there : (frame : List ℕ) (at width : ℕ) (k : ℕ → Ruling) → at + width ≤ length frame → reading (field frame at width) k ≡ k (value_of (slice_range frame at (at + width)))
+number_there : (frame : List ℕ) (at width : ℕ) (k : ℕ → Ruling) → at + width ≤ length frame → reading (field frame at width) k ≡ k (bytes_value (slice_range frame at (at + width)))
 unfolding field
-number_there frame at width k fits = there_is (nat_lt (length frame) (at + width)) (value_of (slice_range frame at (at + width))) k (le-ltb (length frame) (at + width) fits)
+number_there frame at width k fits = there_is (nat_lt (length frame) (at + width)) (bytes_value (slice_range frame at (at + width))) k (le-ltb (length frame) (at + width) fits)
 
 part_there : (frame : List ℕ) (at len : ℕ) (k : List ℕ → Ruling) → at + len ≤ length frame → reading (part frame at len) k ≡ k (slice_range frame at (at + len))
 unfolding part
@@ -108,7 +108,7 @@ not_not : (t : Bool) (r : Ruling) → when (not (not t)) r ≡ when t r
 not_not true r = refl
 not_not false r = refl
 
-sections_table : (bytes frame : List ℕ) (ss : List Span) (a : Ruling) → length frame ≡ length bytes → AllByRecursion (IsWithin (length bytes)) ss
+sections_table : (bytes frame : List ℕ) (ss : List Span) (a : Ruling) → length frame ≡ length bytes → AllByRecursion (IsSpanWithin (length bytes)) ss
     → section_tree bytes frame ss a ≡ when (list_all (is_equal frame bytes) ss) a
 sections_table bytes frame [] a long h = refl
 sections_table bytes frame (s ∷ ss) a long h =
@@ -195,7 +195,7 @@ module _ (n : ℕ) (frame : List ℕ) (m : State) (away : ℕ) where
       (all_lifetimes hold v r1 ss le)
       (λ q0 q1. done rulings n frame m q0 q1))
 
-  all_sections : (bytes : List ℕ) (r0 r1 : ℕ) (ss : List Span) (a : Ruling) (tail : List Item) → length bytes ≤ 1514 → AllByRecursion (IsWithin (length bytes)) ss → stands away tail ≡ false
+  all_sections : (bytes : List ℕ) (r0 r1 : ℕ) (ss : List Span) (a : Ruling) (tail : List Item) → length bytes ≤ 1514 → AllByRecursion (IsSpanWithin (length bytes)) ss → stands away tail ≡ false
       → ((q0 q1 : ℕ) → Yields rulings n frame m q0 q1 a (tail ++ (items.Label away ∷ [])))
       → Yields rulings n frame m r0 r1 (section_tree bytes frame ss a) ((flat_map (section_items away bytes) ss ++ tail) ++ (items.Label away ∷ []))
   all_sections bytes r0 r1 [] a tail short h apart y = y r0 r1
@@ -227,7 +227,7 @@ module _ (n : ℕ) (frame : List ℕ) (m : State) (away : ℕ) where
       (λ q0 q1. done rulings n frame m q0 q1)))
       (λ q0 q1. done rulings n frame m q0 q1))
 
-pub ra_tells : (c : Chosen) (away : ℕ) → 2 ≤ away → IsSound c.advert.bytes c.advert.lifetimes → Tells (λ age frame. said_of (advertised_again c age frame)) (ra_items away c)
+pub ra_tells : (c : Chosen) (away : ℕ) → 2 ≤ away → IsSound c.advert.bytes c.advert.lifetimes → TellsSaid (λ age frame. said_of (advertised_again c age frame)) (ra_items away c)
 ra_tells c away le h = told rulings (λ age frame. advertised_again c age frame) _ (λ n frame age m ready.
     restated rulings n frame m m.r0 m.r1 _ _ _ (whole_table c age frame h)
     (all_items n frame m away c age m.r0 m.r1 le h (ap (λ (slots : List ℕ). get_or slots 15 0) ready.slots) (ap (λ (slots : List ℕ). get_or slots 14 0) ready.slots)))

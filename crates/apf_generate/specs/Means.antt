@@ -8,6 +8,7 @@ use Rattle.data_counters.specs.declared.counter.Counter.TheVariants.{TotalPacket
 use Rattle.data_counters.specs.Memory.{raised}
 use Rattle.policy_state.specs.declared.basis.Basis.{Basis}
 use Rattle.policy_state.specs.Whole.{Fate, Short, Missing, Says, policy, verdict_of}
+use Rattle.apf_base.specs.Limits.{frame_limit, memory_size}
 
 -- the memory that a fate leaves: a frame of more than 14 bytes raises TotalPackets, and an answer its counter
 abbrev pub memory_after : Fate → List ℕ → List ℕ
@@ -29,5 +30,5 @@ pub record HasFate (fate : Fate) (memory : List ℕ) (r : Run) : Type 0 where
   pub why : EndsBy fate r.outcome.why
 
 pub record Means (code : List ℕ) (basis : Basis) : Type 0 where
-  pub means : (frame : List ℕ) (age : ℕ) (memory : List ℕ) → ((k : ℕ) → slice_index frame k < 256) → length frame ≤ 262144 → age < 2 ^ 32 → length memory ≡ 128 →
+  pub means : (frame : List ℕ) (age : ℕ) (memory : List ℕ) → ((k : ℕ) → slice_index frame k < 256) → length frame ≤ frame_limit → age < 2 ^ 32 → length memory ≡ memory_size →
       HasFate (policy basis age frame) memory (run code memory frame age)

@@ -11,6 +11,8 @@ use Rattle.apf_coding.specs.Said.{Said}
 use Rattle.policy_state.specs.Rulings.{said_of}
 use Rattle.apf_generate.specs.Listing.{between_ends}
 use Rattle.apf_generate.specs.Sizes.{weights}
+use Rattle.policy_state.specs.Rooms.{ip6_room}
+use Rattle.policy_state.specs.Weights.{denied_weight, keepalive_weight}
 
 -- what the policy says of a frame of more than 14 bytes
 abbrev pub asked : Basis → ℕ → List ℕ → Said
@@ -27,12 +29,12 @@ pub record AddsRecords (chosen : List Chosen) (from to : ℕ) (old new : List It
 pub record AddsIp6 (basis : Basis) (from to : ℕ) (old new : List Item) : Type 0 where
   pub question : List Item
   pub appended : new ≡ old ++ question
-  pub part : IsPart (λ age frame. said_of (ip6 basis age frame)) from to (142 + weights basis.chosen) question
+  pub part : IsPart (λ age frame. said_of (ip6 basis age frame)) from to (ip6_room + weights basis.chosen) question
   pub few : to ≤ from + 65 + 64 * length basis.chosen
 
 -- The most bytes of the items that answer the questions. The opening and the two ends have 28 more.
 abbrev pub most_asked : Basis → ℕ
-most_asked basis = 484 + 9 * length basis.config.deny + 80 * count_by is_some basis.state.keepalives + weights basis.chosen
+most_asked basis = 484 + denied_weight * length basis.config.deny + keepalive_weight * count_by is_some basis.state.keepalives + weights basis.chosen
 
 -- items that answer all questions, with their labels from 2 on
 pub record HoldsQuestions (basis : Basis) (xs : List Item) : Type 0 where

@@ -1,7 +1,7 @@
 //! The rule for a chosen record of a router advertisement.
 
 ghost use Rattle.std.specs.Prelude.{◌≡◌, ◌≤◌, ◌<◌, ◌+◌, ◌*◌, ◌^◌, ◌++◌, ℕ, length, flat_map, slice_index, All, OnOk, OnErr};
-ghost use Rattle.ra_records.specs.Masks.{IsWithin};
+ghost use Rattle.ra_records.specs.Masks.{IsSpanWithin};
 ghost use Rattle.ra_records.specs.Advert.{IsSound};
 ghost use Rattle.size_fit.specs.Sizes.{weight};
 ghost use Rattle.policy_state.specs.Records.{advertised_again};
@@ -28,7 +28,7 @@ fn add_sections(
     sections: &[Span],
     out: &mut List<Item>,
 ) -> Result<(), OutOfMemory>
-    requires { All (IsWithin (length bytes.now)) sections.now }
+    requires { All (IsSpanWithin (length bytes.now)) sections.now }
     ensures ok { OnOk result (out.new ≡ out.old ++ flat_map (section_items away bytes.now) sections.now) }
     ensures err { OnErr result (Extends out.old out.new) }
     ensures bytes { OnOk result ((k : ℕ) → slice_index bytes.now k < 256) }

@@ -11,7 +11,7 @@ use Rattle.policy_state.specs.declared.basis.Script.{Script}
 use Rattle.size_fit.specs.Sizes.{base, limit_of}
 use Rattle.filter_core.specs.Replay.{begun}
 use Rattle.filter_report.specs.Along.{Reporting, InCourse}
-use Rattle.filter_report.specs.Faults.{fault_of}
+use Rattle.filter_report.specs.Faults.{command_fault}
 use Rattle.filter_report.specs.Lines.{Adds, BreaksOff}
 use Rattle.filter_report.specs.Report.{Leads, Tells}
 use Rattle.filter_report.specs.Text.{entry_lines}
@@ -27,7 +27,7 @@ use Rattle.command_plan.specs.Plan.{Plan, Done, picks, says, unless, ◌>>=◌}
 use Rattle.command_plan.proofs.Following.{before, done, fails, lacks, then_on, then_pick}
 use Rattle.command_plan.proofs.Saying.{all_said, front_of_more}
 use Rattle.command_plan.proofs.Texts.{ended, front_said}
-use Rattle.apf_run.specs.Filter.{HasBegun, IsFirst, begins, room_refusal}
+use Rattle.apf_run.specs.Filter.{HasBegun, IsFirstLine, begins, script_refusal}
 use Rattle.apf_run.proofs.Replaying.{first_lines}
 
 pub not_less : (n m : ℕ) → (n < m → ⊥) → m ≤ n
@@ -49,14 +49,14 @@ one_line script lines t = (_, t.telling)
 
 -- ---- the room
 
-fitting : (script : Script) → base script.config start ≤ limit_of script.config → room_refusal script ≡ None
+fitting : (script : Script) → base script.config start ≤ limit_of script.config → script_refusal script ≡ None
 fitting script fits = by_test (ltb (limit_of script.config) (base script.config start)) (le-ltb _ _ fits)
   where
     by_test : (t : Bool) → t ≡ false → cond t (Some (TooLarge (base script.config start) (limit_of script.config))) None ≡ None
     by_test true e = absurd cc
     by_test false e = refl
 
-too_large : (script : Script) → limit_of script.config < base script.config start → room_refusal script ≡ Some (TooLarge (base script.config start) (limit_of script.config))
+too_large : (script : Script) → limit_of script.config < base script.config start → script_refusal script ≡ Some (TooLarge (base script.config start) (limit_of script.config))
 too_large script lt = by_test (ltb (limit_of script.config) (base script.config start)) (lt-ltb _ _ lt)
   where
     by_test : (t : Bool) → t ≡ true
@@ -68,24 +68,24 @@ module _ (script : Script) (a b : Stage) where
   abbrev Rest : List ℕ → Plan (List ℕ)
   Rest line = says (line ∷ []) >>= λ _. Done line
 
-  has_room : base script.config start ≤ limit_of script.config → (r : Result (List ℕ) Fault) → Follows (picks (IsFirst script) >>= Rest) a b r → Follows (begins script) a b r
+  has_room : base script.config start ≤ limit_of script.config → (r : Result (List ℕ) Fault) → Follows (picks (IsFirstLine script) >>= Rest) a b r → Follows (begins script) a b r
   has_room fits r h =
-      then_on (unless (room_refusal script)) (λ _. picks (IsFirst script) >>= Rest) tt a a b r
+      then_on (unless (script_refusal script)) (λ _. picks (IsFirstLine script) >>= Rest) tt a a b r
       (subst (λ (o : Option Refusal). Follows (unless o) a a (Ok tt)) (sym (fitting script fits)) (ended None a)) h
 
   -- the line of the first install was written
-  pub begun_written : base script.config start ≤ limit_of script.config → Later a b → b.shelf.left ≡ a.shelf.left → (line : List ℕ) → IsFirst script line
+  pub begun_written : base script.config start ≤ limit_of script.config → Later a b → b.shelf.left ≡ a.shelf.left → (line : List ℕ) → IsFirstLine script line
       → AppendsAll a.out.held b.out.held (line ∷ []) → Follows (begins script) a b (Ok line)
   begun_written fits later left line is all =
       has_room fits (Ok line)
-      (then_pick (IsFirst script) Rest line a b (Ok line) is
+      (then_pick (IsFirstLine script) Rest line a b (Ok line) is
       (then_on (says (line ∷ [])) (λ _. Done line) tt a b b (Ok line) (all_said (line ∷ []) a b later left all) (done line b (Ok line) refl)))
 
-  begun_broken : base script.config start ≤ limit_of script.config → Later a b → Rose a.out.faults b.out.faults → (line : List ℕ) → IsFirst script line
+  begun_broken : base script.config start ≤ limit_of script.config → Later a b → Rose a.out.faults b.out.faults → (line : List ℕ) → IsFirstLine script line
       → AppendsFront a.out.held b.out.held (concat (line ∷ [])) → Follows (begins script) a b (Err faults.Write)
   begun_broken fits later rose line is front =
       has_room fits (Err faults.Write)
-      (then_pick (IsFirst script) Rest line a b (Err faults.Write) is
+      (then_pick (IsFirstLine script) Rest line a b (Err faults.Write) is
       (fails (says (line ∷ [])) (λ _. Done line) faults.Write a b (Err faults.Write) refl (front_said a b later (line ∷ []) [] rose front)))
 
   -- a write failed within it
@@ -101,7 +101,7 @@ module _ (script : Script) (a b : Stage) where
   pub begun_refused : limit_of script.config < base script.config start → Follows (begins script) a a (Err (faults.Refused (TooLarge (base script.config start) (limit_of script.config))))
   begun_refused lt =
       let refusal : Refusal = TooLarge (base script.config start) (limit_of script.config) in
-      fails (unless (room_refusal script)) (λ _. picks (IsFirst script) >>= Rest) (faults.Refused refusal) a a (Err (faults.Refused refusal)) refl
+      fails (unless (script_refusal script)) (λ _. picks (IsFirstLine script) >>= Rest) (faults.Refused refusal) a a (Err (faults.Refused refusal)) refl
       (subst (λ (o : Option Refusal). Follows (unless o) a a (Err (faults.Refused refusal))) (sym (too_large script lt)) (ended (Some refusal) a))
 
 -- ---- the end of the first call
@@ -115,7 +115,7 @@ module _ (script : Script) (sound : IsScript script) (a b : Sinking) (later : a.
       → ((fault ≡ reports.Write → ⊥) → Keeps a.held b.held)
       → ((need limit : ℕ) → fault ≡ reports.TooLarge need limit → (limit < need) × (need ≡ base script.config start) × (limit ≡ limit_of script.config))
       → (limit_of script.config < base script.config start → fault ≡ reports.TooLarge (base script.config start) (limit_of script.config))
-      → (fault ≡ reports.Write → Rose a.faults b.faults) → Writes (begins script) a b (Err (fault_of fault))
+      → (fault ≡ reports.Write → Rose a.faults b.faults) → Writes (begins script) a b (Err (command_fault fault))
   begin_fails (reports.TooLarge need limit) front keeps large fits rose =
       let p = large need limit refl in
       let lt : limit_of script.config < base script.config start = omega (arith, p.0, p.1, p.2) in

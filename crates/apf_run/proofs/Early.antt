@@ -8,13 +8,13 @@ use Rattle.command_plan.proofs.Endings.{IsFileStatus, does_quiet, does_refuse, d
 use Rattle.command_plan.specs.Ending.{MayEnd, Leaves}
 use Rattle.command_plan.specs.Files.{input}
 use Rattle.command_plan.specs.Follows.{Stage}
-use Rattle.command_plan.specs.Meaning.{Meaning, nothing, command, Does, MayEndBy}
+use Rattle.command_plan.specs.Meaning.{CommandMeaning, nothing, command, Does, MayEndBy}
 use Rattle.command_plan.specs.Plan.{Plan, ◌>>=◌, says_some, unless, IsQuiet, ReadsWhole}
 use Rattle.command_plan.specs.Status.{status_of}
 use Rattle.command_plan.specs.declared.fault.FileKind.TheVariants as files
 use Rattle.command_plan.specs.declared.fault.Fault.{Fault}
 use Rattle.command_plan.specs.declared.fault.Fault.TheVariants as faults
-use Rattle.apf_run.specs.Commands.{IsNamed, meaning_of}
+use Rattle.apf_run.specs.Commands.{IsNamed, words_meaning}
 use Rattle.code_commands.specs.Exec.{refusal_by}
 use Rattle.apf_run.specs.Filter.{HasOnlyBegun, filter_plan}
 use Rattle.apf_run.proofs.FilterWalk.{Came, Long, came, came_by}
@@ -111,7 +111,7 @@ module _ (file : List ℕ → Option (List ℕ)) (s c : List ℕ) (end : Result 
 
 -- where `filter` can't read a file, its first line stands at most
 pub only_begun : (file : List ℕ → Option (List ℕ)) (old new : Option (List ℕ)) (s c : List ℕ) (words : List (List ℕ)) (lines : List (List ℕ)) (end : Result (Unit {0}) Fault)
-    → words ≡ codes "filter" ∷ s ∷ c ∷ [] → IsFileStatus (status_of end) → MayEndBy (meaning_of words) file lines end → Leaves old new lines end
+    → words ≡ codes "filter" ∷ s ∷ c ∷ [] → IsFileStatus (status_of end) → MayEndBy (words_meaning words) file lines end → Leaves old new lines end
     → Keeps old new ⊎ HasOnlyBegun (file s) old new
 only_begun file old new s c words lines end is kind may left =
     one_said file s c end (file_is_early (status_of end) kind) old new lines (came_by file s c end words lines is may) left
@@ -121,7 +121,7 @@ only_begun file old new s c words lines end is kind may left =
 module _ (words : List (List ℕ)) (a b : Stage) (end : Result (Unit {0}) Fault) where
   -- nothing was written too early
   module _ (early : IsEarly (status_of end)) (none : IsNamed (codes "filter") words → IsOfNoFile (status_of end)) where
-    abbrev Kept : Meaning → Type 0
+    abbrev Kept : CommandMeaning → Type 0
     Kept m = Does m a b end → Keeps a.out.held b.out.held
 
     plan_keeps : (plan : Plan (Unit {0})) → IsQuiet false plan → Kept (command plan)
@@ -132,14 +132,14 @@ module _ (words : List (List ℕ)) (a b : Stage) (end : Result (Unit {0}) Fault)
         let all = does_stands a b end (command (filter_plan s c)) h in
         nothing_said a.shelf.file s c end early a.out.held b.out.held all.0 (none named) (came a.shelf.file s c end all.0 all.1) all.2
 
-    pub keeps_early : Kept (meaning_of words)
+    pub keeps_early : Kept (words_meaning words)
     keeps_early = by_words words Kept (λ h. does_quiet a b end nothing h tt early.ok early.capture early.memory early.write)
         (λ plan quiet whole. plan_keeps plan quiet) (λ plan quiet named. plan_keeps plan quiet) filter_keeps
 
   -- nothing was left unread
   module _ (ok : status_of end ≡ 0) (no_program : IsNamed (codes "program") words → ⊥) (no_make : IsNamed (codes "make") words → ⊥) where
     -- an end that is done has read its last file to the end
-    abbrev AtEnd : Meaning → Type 0
+    abbrev AtEnd : CommandMeaning → Type 0
     AtEnd m = Does m a b end → IsAtEnd b.shelf.left
 
     nothing_done : AtEnd nothing
@@ -156,6 +156,6 @@ module _ (words : List (List ℕ)) (a b : Stage) (end : Result (Unit {0}) Fault)
     neither (inl named) = absurd (no_program named)
     neither (inr named) = absurd (no_make named)
 
-    pub reads_all : AtEnd (meaning_of words)
+    pub reads_all : AtEnd (words_meaning words)
     reads_all = by_words words AtEnd nothing_done (λ plan quiet whole. plan_ends plan whole) (λ plan quiet named. neither named)
         (λ s c named. plan_ends (filter_plan s c) (filter_whole s c))

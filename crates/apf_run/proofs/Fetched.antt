@@ -1,6 +1,6 @@
 -- A shelf that may fetch every file may fetch those that words name.
 use Rattle.std.proofs.Common.{ℕ, List}
-use Rattle.command_plan.specs.Meaning.{Meaning, nothing, command, MayFetchFor}
+use Rattle.command_plan.specs.Meaning.{CommandMeaning, nothing, command, MayFetchFor}
 use Rattle.command_plan.specs.Plan.{Plan, Done, Refuse, Ask, Pick, Say, MayFetch}
 
 module _ (may : List ℕ → Type 0) (all : (name : List ℕ) → may name) where
@@ -12,6 +12,6 @@ module _ (may : List ℕ → Type 0) (all : (name : List ℕ) → may name) wher
   fetches (Pick P rest) = λ x has. fetches (rest x)
   fetches (Say lines rest) = fetches rest
 
-  pub fetches_all : (m : Meaning) → MayFetchFor may m
+  pub fetches_all : (m : CommandMeaning) → MayFetchFor may m
   fetches_all nothing = tt
   fetches_all (command plan) = fetches plan

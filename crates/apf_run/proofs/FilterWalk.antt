@@ -10,15 +10,15 @@ use Rattle.script_text.specs.ScriptReading.{script_answer}
 use Rattle.script_text.specs.declared.script_error.ScriptError.{ScriptError}
 use Rattle.script_text.specs.declared.script_error.ScriptError.TheVariants as scripts
 use Rattle.command_plan.specs.Ending.{EndsAs, MayEnd}
-use Rattle.command_plan.specs.Files.{FileFails, input, limit_of}
+use Rattle.command_plan.specs.Files.{FileFails, input, file_limit}
 use Rattle.command_plan.specs.Meaning.{MayEndBy}
 use Rattle.command_plan.specs.Plan.{Done, MayHold, ◌>>=◌, asks, picks, says, unless}
 use Rattle.command_plan.specs.declared.fault.FileKind.TheVariants as files
 use Rattle.command_plan.specs.declared.fault.Refusal.{Refusal}
 use Rattle.command_plan.specs.declared.fault.Fault.{Fault}
 use Rattle.command_plan.specs.declared.fault.Fault.TheVariants as faults
-use Rattle.apf_run.specs.Commands.{meaning_for, meaning_of}
-use Rattle.apf_run.specs.Filter.{IsFirst, filter_plan, filters, replays, room_refusal, says_something}
+use Rattle.apf_run.specs.Commands.{meaning_for, words_meaning}
+use Rattle.apf_run.specs.Filter.{IsFirstLine, filter_plan, filters, replays, script_refusal, says_something}
 
 -- the script that was read of a file, and the line of its first install
 pub record Begun (told : Option (List ℕ)) : Type 0 where
@@ -27,12 +27,12 @@ pub record Begun (told : Option (List ℕ)) : Type 0 where
   pub script : Script
   pub is : IsScriptText text script
   pub line : List ℕ
-  pub first : IsFirst script line
+  pub first : IsFirstLine script line
 
 module _ (file : List ℕ → Option (List ℕ)) (s c : List ℕ) (end : Result (Unit {0}) Fault) where
   -- the capture has more bytes than it may have
   abbrev pub Long : Type 0
-  Long = IfSome (file c) (λ told. limit_of files.Capture < length told)
+  Long = IfSome (file c) (λ told. file_limit files.Capture < length told)
 
   pub data Came (lines : List (List ℕ)) : Type 0 where
     -- it ended before it wrote
@@ -56,7 +56,7 @@ module _ (file : List ℕ → Option (List ℕ)) (s c : List ℕ) (end : Result 
       ]
 
   room_case : (text : List ℕ) → MayHold (input files.Script 1) (file s) text → (script : Script) → IsScriptText text script → (lines : List (List ℕ)) (o : Option Refusal)
-      → MayEnd ((unless o >>= λ _. picks (IsFirst script) >>= λ line. says (line ∷ []) >>= λ _. Done line) >>= λ line. asks (input files.Capture 2) c >>= λ bytes. replays script line bytes) file lines end
+      → MayEnd ((unless o >>= λ _. picks (IsFirstLine script) >>= λ line. says (line ∷ []) >>= λ _. Done line) >>= λ line. asks (input files.Capture 2) c >>= λ bytes. replays script line bytes) file lines end
       → Came lines
   unfolding MayEnd ◌>>=◌
   room_case text held script is lines None h =
@@ -80,7 +80,7 @@ module _ (file : List ℕ → Option (List ℕ)) (s c : List ℕ) (end : Result 
   script_case text held lines (Ok contents) h =
       elim h [
         | inl lack ↦ failed faults.OutOfMemory lines lack
-        | inr some ↦ room_case text held some.0 some.1 lines (room_refusal some.0) some.2
+        | inr some ↦ room_case text held some.0 some.1 lines (script_refusal some.0) some.2
       ]
   script_case text held lines (Err (scripts.Bad line kind)) h = failed _ lines h
   script_case text held lines (Err scripts.OutOfMemory) h =
@@ -103,5 +103,5 @@ module _ (file : List ℕ → Option (List ℕ)) (s c : List ℕ) (end : Result 
   by_test lines true h = came lines h
   by_test lines false h = failed faults.Usage lines h
 
-  pub came_by : (words : List (List ℕ)) (lines : List (List ℕ)) → words ≡ codes "filter" ∷ s ∷ c ∷ [] → MayEndBy (meaning_of words) file lines end → Came lines
-  came_by words lines is h = by_test lines (list_all is_plain (s ∷ c ∷ [])) (subst (λ (ws : List (List ℕ)). MayEndBy (meaning_of ws) file lines end) is h)
+  pub came_by : (words : List (List ℕ)) (lines : List (List ℕ)) → words ≡ codes "filter" ∷ s ∷ c ∷ [] → MayEndBy (words_meaning words) file lines end → Came lines
+  came_by words lines is h = by_test lines (list_all is_plain (s ∷ c ∷ [])) (subst (λ (ws : List (List ℕ)). MayEndBy (words_meaning ws) file lines end) is h)

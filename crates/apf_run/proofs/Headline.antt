@@ -14,7 +14,7 @@ use Rattle.command_plan.specs.Plan.{◌>>=◌, says_some}
 use Rattle.command_plan.specs.Status.{status_of}
 use Rattle.command_plan.specs.declared.fault.Fault.{Fault}
 use Rattle.command_plan.proofs.Endings.{ended_well}
-use Rattle.apf_run.specs.Commands.{meaning_of}
+use Rattle.apf_run.specs.Commands.{words_meaning}
 use Rattle.code_commands.specs.Exec.{refusal_by}
 use Rattle.apf_run.specs.Filter.{TellsAll}
 use Rattle.apf_run.specs.Filtered.{IsFiltered}
@@ -95,9 +95,9 @@ written (Some text) (Some bytes) old new lines all h = (h.0, h.1, lines, h.2, al
 
 -- with status 0
 pub filtered : (file : List ℕ → Option (List ℕ)) (old new : Option (List ℕ)) (s c : List ℕ) (words : List (List ℕ)) (lines : List (List ℕ)) (end : Result (Unit {0}) Fault) → words ≡ codes "filter" ∷ s ∷ c ∷ []
-    → status_of end ≡ 0 → MayEndBy (meaning_of words) file lines end → Leaves old new lines end → IfSome (file s) (λ text. IfSome (file c) (λ bytes. IsFiltered text bytes old new))
+    → status_of end ≡ 0 → MayEndBy (words_meaning words) file lines end → Leaves old new lines end → IfSome (file s) (λ text. IfSome (file c) (λ bytes. IsFiltered text bytes old new))
 filtered file old new s c words lines end is ok may left =
     let well : end ≡ Ok tt = ended_well end ok in
-    let now : MayEndBy (meaning_of words) file lines (Ok tt) = subst (λ (e : Result (Unit {0}) Fault). MayEndBy (meaning_of words) file lines e) well may in
+    let now : MayEndBy (words_meaning words) file lines (Ok tt) = subst (λ (e : Result (Unit {0}) Fault). MayEndBy (words_meaning words) file lines e) well may in
     written (file s) (file c) old new lines (subst (λ (e : Result (Unit {0}) Fault). Leaves old new lines e) well left)
     (reported file s c lines (came_by file s c (Ok tt) words lines is now))

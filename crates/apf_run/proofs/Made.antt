@@ -14,7 +14,7 @@ use Rattle.policy_state.specs.declared.basis.Script.{Script}
 use Rattle.size_fit.specs.Sizes.{base, limit_of}
 use Rattle.script_text.proofs.Said.{says_again}
 use Rattle.script_text.specs.ScriptLines.{Contents, contents_of}
-use Rattle.script_text.specs.ScriptReading.{Tells, script_answer}
+use Rattle.script_text.specs.ScriptReading.{ReadsAs, script_answer}
 use Rattle.script_text.specs.Scripts.{Says}
 use Rattle.script_text.specs.declared.script_error.ScriptError.{ScriptError}
 use Rattle.script_text.specs.declared.script_error.ScriptError.TheVariants.{Bad}
@@ -30,7 +30,7 @@ use Rattle.made_input.specs.MadeCaptures.{made_capture, made_stamp}
 use Rattle.made_input.specs.MadeScripts.{doze_line, ended, made_contents, made_lines, made_script, opening}
 use Rattle.made_input.proofs.Said.{said, script_short}
 use Rattle.made_input.proofs.Whole.{whole}
-use Rattle.filter_report.specs.Faults.{fault_of}
+use Rattle.filter_report.specs.Faults.{command_fault}
 use Rattle.command_plan.specs.declared.fault.Fault.{Fault}
 use Rattle.command_plan.specs.declared.fault.Fault.TheVariants as faults
 use Rattle.command_plan.specs.Follows.{Stage, Later, Follows}
@@ -41,12 +41,13 @@ use Rattle.command_plan.proofs.Stages.{idle_refl}
 use Rattle.command_plan.proofs.Texts.{front_said}
 use Rattle.apf_run.specs.Make.{IsSummary, HasBegunMade, HasEndedMade, makes, summary_lines}
 use Rattle.apf_run.specs.declared.setting.What.TheVariants.{Summary}
+use Rattle.apf_base.specs.Limits.{script_limit}
 
 -- ---- the script
 
 module _ (n : ℕ) (le : n ≤ 100000) (text : List ℕ) (is : text ≡ made_script n) where
-  pub text_short : length text ≤ 1048576
-  text_short = subst (λ (t : List ℕ). length t ≤ 1048576) (sym is) (script_short n le)
+  pub text_short : length text ≤ script_limit
+  text_short = subst (λ (t : List ℕ). length t ≤ script_limit) (sym is) (script_short n le)
 
   answered : script_answer text ≡ Ok (made_contents n)
   answered = ap script_answer is ∙ says_again (made_script n) (made_contents n) (said n le)
@@ -59,9 +60,9 @@ module _ (n : ℕ) (le : n ≤ 100000) (text : List ℕ) (is : text ≡ made_scr
       same r a b e f = cc
 
   -- no line is refused
-  pub none_bad : (line : ℕ) (kind : ScriptKind) (fault : ScriptError) (result : Result Script ScriptError) → result ≡ Err fault → fault ≡ Bad line kind → Tells contents_of result (script_answer text) → ⊥
+  pub none_bad : (line : ℕ) (kind : ScriptKind) (fault : ScriptError) (result : Result Script ScriptError) → result ≡ Err fault → fault ≡ Bad line kind → ReadsAs contents_of result (script_answer text) → ⊥
   none_bad line kind fault result e f told =
-      apart (script_answer text) (subst (λ (r : Result Script ScriptError). Tells contents_of r (script_answer text)) (e ∙ ap (λ (x : ScriptError). Err x) f) told) answered
+      apart (script_answer text) (subst (λ (r : Result Script ScriptError). ReadsAs contents_of r (script_answer text)) (e ∙ ap (λ (x : ScriptError). Err x) f) told) answered
     where
       apart : (a : Result Contents ScriptError) → a ≡ Err (Bad line kind) → a ≡ Ok (made_contents n) → ⊥
       apart a bad ok = cc
@@ -129,7 +130,7 @@ module _ (n : ℕ) (f : Reporting) (a b : Stage) (later : Later a b) (is : HasEn
   pub totals_fail : (result : Result (Unit {0}) ReportFault) (fault : ReportFault) → result ≡ Err fault
       → ((c : Course) (frames lines : List (List ℕ)) → InCourse c f frames lines → result ≡ Err reports.Write → AppendsFront a.out.held b.out.held (concat (entry_lines [] [] (totals c.told))))
       → ((result ≡ Err reports.Write → ⊥) → Keeps a.out.held b.out.held) → ((need limit : ℕ) → result ≡ Err (reports.TooLarge need limit) → ⊥)
-      → (result ≡ Err reports.Write → Rose a.out.faults b.out.faults) → Follows (makes Summary n) a b (Err (fault_of fault))
+      → (result ≡ Err reports.Write → Rose a.out.faults b.out.faults) → Follows (makes Summary n) a b (Err (command_fault fault))
   totals_fail result (reports.TooLarge need limit) e front keeps none rose = absurd (none need limit e)
   totals_fail result reports.OutOfMemory e front keeps none rose = lacks (makes Summary n) a b (Err faults.OutOfMemory) refl (record { later = later; held = keeps (λ w. absurd cc) })
   totals_fail result reports.Write e front keeps none rose =
@@ -137,7 +138,7 @@ module _ (n : ℕ) (f : Reporting) (a b : Stage) (later : Later a b) (is : HasEn
       (subst (λ (l : List (List ℕ)). Follows (says l) a b (Err faults.Write)) (append-nil Lines) (front_said a b later Lines [] (rose e) (front _ is.2.0 is.2.1 is.2.2 e)))
 
 -- memory was wanting before the totals
-pub replay_fails : (n : ℕ) (s : Stage) (fault : ReportFault) → ((need limit : ℕ) → fault ≡ reports.TooLarge need limit → ⊥) → (fault ≡ reports.Write → ⊥) → Follows (makes Summary n) s s (Err (fault_of fault))
+pub replay_fails : (n : ℕ) (s : Stage) (fault : ReportFault) → ((need limit : ℕ) → fault ≡ reports.TooLarge need limit → ⊥) → (fault ≡ reports.Write → ⊥) → Follows (makes Summary n) s s (Err (command_fault fault))
 replay_fails n s (reports.TooLarge need limit) none written = absurd (none need limit refl)
 replay_fails n s reports.OutOfMemory none written = lacks (makes Summary n) s s _ refl (idle_refl s)
 replay_fails n s reports.Write none written = absurd (written refl)

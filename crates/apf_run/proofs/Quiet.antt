@@ -14,23 +14,23 @@ use Rattle.script_text.specs.Scripts.{IsScriptText}
 use Rattle.script_text.specs.declared.script_error.ScriptError.{ScriptError}
 use Rattle.script_text.specs.declared.script_error.ScriptError.TheVariants as scripts
 use Rattle.command_plan.specs.Files.{input}
-use Rattle.command_plan.specs.Meaning.{Meaning, nothing, command, spelled, named_so}
+use Rattle.command_plan.specs.Meaning.{CommandMeaning, nothing, command, spelled, named_so}
 use Rattle.command_plan.specs.Plan.{Plan, Done, ◌>>=◌, asks, picks, says, unless, IsQuiet, ReadsWhole}
 use Rattle.command_plan.specs.declared.fault.FileKind.TheVariants as files
 use Rattle.command_plan.specs.declared.fault.Refusal.{Refusal}
 use Rattle.code_commands.specs.Asm.{asm_plan}
 use Rattle.code_commands.proofs.Sound.{by_end, exec_sound, asm_sound, disasm_sound}
-use Rattle.apf_run.specs.Commands.{IsNamed, meaning_by, meaning_for, meaning_of}
+use Rattle.apf_run.specs.Commands.{IsNamed, meaning_by, meaning_for, words_meaning}
 use Rattle.code_commands.specs.Disasm.{disasm_plan}
 use Rattle.code_commands.specs.Exec.{exec_meaning, exec_plan}
-use Rattle.apf_run.specs.Filter.{IsFirst, filter_plan, filters, replays, room_refusal, says_something}
+use Rattle.apf_run.specs.Filter.{IsFirstLine, filter_plan, filters, replays, script_refusal, says_something}
 use Rattle.apf_run.specs.Make.{make_meaning, makes}
 use Rattle.apf_run.specs.Program.{IsCodeOf, code_line, program_meaning, program_plan}
 use Rattle.apf_run.specs.Program as programs
 use Rattle.apf_run.specs.Settings.{Setting, making_for, setting_for}
 use Rattle.apf_run.specs.declared.setting.What.{What}
 use Rattle.apf_run.specs.declared.setting.What.TheVariants as made
-use Rattle.plain_text.specs.Numbers.{number_of}
+use Rattle.plain_text.specs.Numbers.{number_within}
 
 -- ---- plans that ask for no file
 
@@ -40,7 +40,7 @@ by_room setting None = λ code has. tt
 by_room setting (Some refusal) = tt
 
 program_quiet : (setting : Setting) → IsQuiet false (program_plan setting)
-program_quiet setting = by_room setting (programs.room_refusal setting)
+program_quiet setting = by_room setting (programs.setting_refusal setting)
 
 makes_quiet : (what : What) (n : ℕ) → IsQuiet false (makes what n)
 unfolding IsQuiet ◌>>=◌
@@ -51,14 +51,14 @@ makes_quiet made.Summary n = λ lines are. tt
 -- ---- `filter`, which asks for its capture behind its first line, and reads it to its end
 
 room_whole : (script : Script) (c : List ℕ) (o : Option Refusal)
-    → ReadsWhole true ((unless o >>= λ _. picks (IsFirst script) >>= λ line. says (line ∷ []) >>= λ _. Done line) >>= λ line. asks (input files.Capture 2) c >>= λ bytes. replays script line bytes)
+    → ReadsWhole true ((unless o >>= λ _. picks (IsFirstLine script) >>= λ line. says (line ∷ []) >>= λ _. Done line) >>= λ line. asks (input files.Capture 2) c >>= λ bytes. replays script line bytes)
 unfolding ReadsWhole ◌>>=◌
 room_whole script c None = λ line first bytes lines are. (by_end (capture bytes).end).1
 room_whole script c (Some refusal) = tt
 
 script_whole : (text c : List ℕ) (r : Result Contents ScriptError) → ReadsWhole true ((says_something r >>= λ _. picks (IsScriptText text)) >>= λ read. filters read c)
 unfolding ReadsWhole ◌>>=◌
-script_whole text c (Ok contents) = λ script is. room_whole script c (room_refusal script)
+script_whole text c (Ok contents) = λ script is. room_whole script c (script_refusal script)
 script_whole text c (Err (scripts.Bad line kind)) = tt
 script_whole text c (Err scripts.OutOfMemory) = λ x has. absurd x
 
@@ -70,11 +70,11 @@ filter_whole s c = λ text. script_whole text c (script_answer text)
 
 -- What holds of nothing, of each plan that asks for its files before it writes and reads the last one to its end, of each
 -- that asks for no file, and of `filter`, holds of what any words mean.
-module _ (words : List (List ℕ)) (P : Meaning → Type 0) (none : P nothing)
+module _ (words : List (List ℕ)) (P : CommandMeaning → Type 0) (none : P nothing)
     (reader : (plan : Plan (Unit {0})) → IsQuiet false plan → ReadsWhole false plan → P (command plan))
     (writer : (plan : Plan (Unit {0})) → IsQuiet false plan → (IsNamed (codes "program") words) ⊎ (IsNamed (codes "make") words) → P (command plan))
     (filter : (s c : List ℕ) → IsNamed (codes "filter") words → P (command (filter_plan s c))) where
-  by_spelling : {X : Type 0} (o : Option X) (next : X → Meaning) → ((x : X) → P (next x)) → P (spelled o next)
+  by_spelling : {X : Type 0} (o : Option X) (next : X → CommandMeaning) → ((x : X) → P (next x)) → P (spelled o next)
   by_spelling None next h = none
   by_spelling (Some x) next h = h x
 
@@ -84,7 +84,7 @@ module _ (words : List (List ℕ)) (P : Meaning → Type 0) (none : P nothing)
   one_case false false x = none
 
   three_case : (t : Bool) (p c age : List ℕ) → P (named_so t (exec_meaning p c age) nothing)
-  three_case true p c age = by_spelling (number_of 4294967295 age) _ (λ n. reader (exec_plan p c n) (exec_sound p c n).0 (exec_sound p c n).1)
+  three_case true p c age = by_spelling (number_within 4294967295 age) _ (λ n. reader (exec_plan p c n) (exec_sound p c n).0 (exec_sound p c n).1)
   three_case false p c age = none
 
   module _ (name : List ℕ) (rest : List (List ℕ)) (is : words ≡ name ∷ rest) where
@@ -121,9 +121,9 @@ module _ (words : List (List ℕ)) (P : Meaning → Type 0) (none : P nothing)
     by_usage true (Some u) = by_count _ (further_of rest)
     by_usage false u = none
 
-  by_first : (all : List (List ℕ)) → words ≡ all → P (meaning_of all)
+  by_first : (all : List (List ℕ)) → words ≡ all → P (words_meaning all)
   by_first [] is = none
   by_first (name ∷ rest) is = by_usage name rest is (list_all is_plain rest) (usage_of name)
 
-  pub by_words : P (meaning_of words)
+  pub by_words : P (words_meaning words)
   by_words = by_first words refl

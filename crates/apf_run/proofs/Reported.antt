@@ -10,7 +10,7 @@ use Rattle.filter_report.proofs.Adding.{adds_adds, adds_breaks}
 use Rattle.filter_report.proofs.Leading.{leads_report, along_tells}
 use Rattle.filter_report.specs.Along.{Reporting, InCourse}
 use Rattle.filter_report.specs.Arrivals.{arrivals_of}
-use Rattle.filter_report.specs.Faults.{fault_of}
+use Rattle.filter_report.specs.Faults.{command_fault}
 use Rattle.filter_report.specs.Lines.{Adds, BreaksOff}
 use Rattle.filter_report.specs.Report.{Leads, Tells, ended}
 use Rattle.filter_report.specs.declared.fault.ReportFault.{ReportFault}
@@ -39,7 +39,7 @@ module _ (script : Script) (f : Reporting) (line : List ℕ) (h : HasBegun scrip
   -- a report broke off: its lines so far can be completed
   broken : (end : Option PcapError) (fault : ReportFault) (After : List (List ℕ) → Type 0) → ((need limit : ℕ) → fault ≡ reports.TooLarge need limit → ⊥)
       → (fault ≡ reports.Write → Rose a.out.faults b.out.faults) → ((lines : List (List ℕ)) → After lines → (rest : List (List ℕ)) × TellsAll end script Arrivals (lines ++ rest))
-      → BreaksOff fault (InCourse (begun script) f []) After a.out.held b.out.held → Follows (says_some (More end) (refusal_by end)) a b (Err (fault_of fault))
+      → BreaksOff fault (InCourse (begun script) f []) After a.out.held b.out.held → Follows (says_some (More end) (refusal_by end)) a b (Err (command_fault fault))
   broken end (reports.TooLarge need limit) After other rose complete off = absurd (other need limit refl)
   broken end reports.OutOfMemory After other rose complete off =
       let r = off (line ∷ []) h.course in
@@ -51,7 +51,7 @@ module _ (script : Script) (f : Reporting) (line : List ℕ) (h : HasBegun scrip
       wrote_front (More end) (refusal_by end) a b later r.0 c.0 c.1 (rose refl) r.1
 
   pub records_break : (end : Option PcapError) (fault : ReportFault) → ((need limit : ℕ) → fault ≡ reports.TooLarge need limit → ⊥) → (fault ≡ reports.Write → Rose a.out.faults b.out.faults)
-      → BreaksOff fault (InCourse (begun script) f []) (Leads Taken.told Frames) a.out.held b.out.held → Follows (says_some (More end) (refusal_by end)) a b (Err (fault_of fault))
+      → BreaksOff fault (InCourse (begun script) f []) (Leads Taken.told Frames) a.out.held b.out.held → Follows (says_some (More end) (refusal_by end)) a b (Err (command_fault fault))
   unfolding course
   records_break end fault other rose off =
       broken end fault (Leads Taken.told Frames) other rose
@@ -70,7 +70,7 @@ module _ (script : Script) (f : Reporting) (line : List ℕ) (h : HasBegun scrip
     -- the report broke off behind the last record
     pub ending_breaks : (c : Option (List ℕ)) (fault : ReportFault) → ((need limit : ℕ) → fault ≡ reports.TooLarge need limit → ⊥) → (fault ≡ reports.Write → Rose a.out.faults b.out.faults)
         → Adds (InCourse (begun script) f []) (InCourse Taken g Frames) a.out.held c → BreaksOff fault (InCourse Taken g Frames) (Leads (ended Taken) Frames) c b.out.held
-        → Follows (says_some (More None) (refusal_by None)) a b (Err (fault_of fault))
+        → Follows (says_some (More None) (refusal_by None)) a b (Err (command_fault fault))
     unfolding course
     ending_breaks c fault other rose adds off =
         broken None fault (Leads (ended Taken) Frames) other rose

@@ -18,7 +18,7 @@ use Rattle.command_plan.specs.Plan.{picks, unless}
 use Rattle.command_plan.proofs.Following.{done, fails, picked, refused, then_on}
 use Rattle.command_plan.proofs.Texts.{ended}
 use Rattle.apf_run.specs.Filter.{reads_script, says_something}
-use Rattle.apf_run.specs.Program.{IsBasisOf, IsCodeOf, generates, room_refusal}
+use Rattle.apf_run.specs.Program.{IsBasisOf, IsCodeOf, generates, setting_refusal}
 use Rattle.apf_run.specs.Settings.{Setting}
 
 -- ---- `program`
@@ -33,14 +33,14 @@ module _ (setting : Setting) (basis : Basis) (is : IsBasisOf setting basis) wher
   abbrev Room : Bool → Option Refusal
   Room t = cond t (Some (TooLarge (base_for 0 0) (limit_for setting.capacity))) None
 
-  has_room : base_for 0 0 ≤ limit_for setting.capacity → room_refusal setting ≡ None
+  has_room : base_for 0 0 ≤ limit_for setting.capacity → setting_refusal setting ≡ None
   has_room fits = by_test (ltb (limit_for setting.capacity) (base_for 0 0)) (le-ltb _ _ fits)
     where
       by_test : (t : Bool) → t ≡ false → Room t ≡ None
       by_test true e = absurd cc
       by_test false e = refl
 
-  has_none : limit_for setting.capacity < base_for 0 0 → room_refusal setting ≡ Some (TooLarge (base_for 0 0) (limit_for setting.capacity))
+  has_none : limit_for setting.capacity < base_for 0 0 → setting_refusal setting ≡ Some (TooLarge (base_for 0 0) (limit_for setting.capacity))
   has_none lt = by_test (ltb (limit_for setting.capacity) (base_for 0 0)) (lt-ltb _ _ lt)
     where
       by_test : (t : Bool) → t ≡ true → Room t ≡ Some (TooLarge (base_for 0 0) (limit_for setting.capacity))
@@ -50,7 +50,7 @@ module _ (setting : Setting) (basis : Basis) (is : IsBasisOf setting basis) wher
   pub generated : (need limit : ℕ) (code : List ℕ) → need ≡ base basis.config basis.state → limit ≡ limit_of basis.config → need ≤ limit → IsCodeOf setting code → Thinks (generates setting) (Ok code)
   generated need limit code n l fits of = record {
     at = λ s.
-        then_on (unless (room_refusal setting)) (λ _. picks (IsCodeOf setting)) tt s s s (Ok code)
+        then_on (unless (setting_refusal setting)) (λ _. picks (IsCodeOf setting)) tt s s s (Ok code)
         (subst (λ (o : Option Refusal). Follows (unless o) s s (Ok tt)) (sym (has_room (subst (λ (m : ℕ). m ≤ limit_for setting.capacity) (n ∙ base_is) (subst (λ (m : ℕ). need ≤ m) (l ∙ limit_is) fits)))) (ended None s))
         (picked (IsCodeOf setting) code s (Ok code) refl of);
   }
@@ -61,7 +61,7 @@ module _ (setting : Setting) (basis : Basis) (is : IsBasisOf setting basis) wher
       let same : TooLarge need limit ≡ TooLarge (base_for 0 0) (limit_for setting.capacity) = ap (λ m. TooLarge m limit) (n ∙ base_is) ∙ ap (λ m. TooLarge (base_for 0 0) m) (l ∙ limit_is) in
       record {
         at = λ s.
-            fails (unless (room_refusal setting)) (λ _. picks (IsCodeOf setting)) (faults.Refused (TooLarge need limit)) s s _ refl
+            fails (unless (setting_refusal setting)) (λ _. picks (IsCodeOf setting)) (faults.Refused (TooLarge need limit)) s s _ refl
             (subst (λ (o : Option Refusal). Follows (unless o) s s (Err (faults.Refused (TooLarge need limit)))) (sym (has_none small ∙ ap (λ (r : Refusal). Some r) (sym same))) (ended (Some (TooLarge need limit)) s));
       }
 

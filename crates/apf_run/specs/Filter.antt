@@ -40,20 +40,20 @@ reads_script text = do
 -- ---- the first install
 
 -- the base of the first state is to fit: at the start no keepalive was sent
-abbrev pub room_refusal : Script → Option Refusal
-room_refusal script =
+abbrev pub script_refusal : Script → Option Refusal
+script_refusal script =
     let need = base script.config start in
     let limit = limit_of script.config in
     if nat_lt limit need then Some (TooLarge need limit) else None
 
 -- the line of the first install
-abbrev pub IsFirst : Script → List ℕ → Type 0
-IsFirst script line = Tells (begun script).told [] (line ∷ [])
+abbrev pub IsFirstLine : Script → List ℕ → Type 0
+IsFirstLine script line = Tells (begun script).told [] (line ∷ [])
 
 abbrev pub begins : Script → Plan (List ℕ)
 begins script = do
-  _ ← unless (room_refusal script)
-  line ← picks (IsFirst script)
+  _ ← unless (script_refusal script)
+  line ← picks (IsFirstLine script)
   _ ← says (line ∷ [])
   Done line
 
@@ -92,7 +92,7 @@ abbrev pub HasOnlyBegun : Option (List ℕ) → Option (List ℕ) → Option (Li
 HasOnlyBegun told old new =
     (text : List ℕ) × MayHold (input files.Script 1) told text
     × (script : Script) × IsScriptText text script
-    × (line : List ℕ) × IsFirst script line × AppendsAll old new (line ∷ [])
+    × (line : List ℕ) × IsFirstLine script line × AppendsAll old new (line ∷ [])
 
 -- ---- parts of the command
 

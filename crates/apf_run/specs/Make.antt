@@ -11,7 +11,7 @@ use Rattle.filter_report.specs.Arrivals.{arrivals_of}
 use Rattle.filter_report.specs.Text.{entry_lines}
 use Rattle.made_input.specs.MadeCaptures.{made_capture, made_kind, made_record}
 use Rattle.made_input.specs.MadeScripts.{ended, made_lines, made_script}
-use Rattle.command_plan.specs.Meaning.{Meaning, command, spelled}
+use Rattle.command_plan.specs.Meaning.{CommandMeaning, command, spelled}
 use Rattle.command_plan.specs.Plan.{Plan, ◌>>=◌, picks, says}
 use Rattle.apf_run.specs.Settings.{Making, making_for}
 use Rattle.apf_run.specs.declared.setting.What.{What}
@@ -39,7 +39,7 @@ abbrev pub make_plan : Making → Plan (Unit {0})
 make_plan making = makes making.what making.n
 
 -- `make WHAT N`
-abbrev pub make_meaning : List ℕ → List ℕ → Meaning
+abbrev pub make_meaning : List ℕ → List ℕ → CommandMeaning
 make_meaning what n = spelled (making_for what n) (λ making. command (make_plan making))
 
 -- ---- parts of the command

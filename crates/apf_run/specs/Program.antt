@@ -7,15 +7,15 @@ use Rattle.apf_generate.specs.Sizes.{need_of}
 use Rattle.policy_state.specs.declared.basis.Basis.{Basis}
 use Rattle.policy_state.specs.declared.state.FilterState.{FilterState}
 use Rattle.size_fit.specs.Sizes.{base_for, limit_for}
-use Rattle.command_plan.specs.Meaning.{Meaning, command, spelled}
+use Rattle.command_plan.specs.Meaning.{CommandMeaning, command, spelled}
 use Rattle.command_plan.specs.Plan.{Plan, ◌>>=◌, picks, says, unless}
 use Rattle.command_plan.specs.declared.fault.Refusal.{Refusal}
 use Rattle.command_plan.specs.declared.fault.Refusal.TheVariants.{TooLarge}
 use Rattle.apf_run.specs.Settings.{Setting, setting_for}
 
 -- the state of a setting: without keepalives
-abbrev pub state_of : Setting → FilterState
-state_of setting = record { multicast = setting.flags.multicast; doze = setting.flags.doze; address = setting.address; keepalives = replicate 8 None }
+abbrev pub setting_state : Setting → FilterState
+setting_state setting = record { multicast = setting.flags.multicast; doze = setting.flags.doze; address = setting.address; keepalives = replicate 8 None }
 
 -- the basis of a setting: nothing is denied, and no record is chosen
 pub record IsBasisOf (setting : Setting) (basis : Basis) : Type 0 where
@@ -23,7 +23,7 @@ pub record IsBasisOf (setting : Setting) (basis : Basis) : Type 0 where
   pub capacity : basis.config.capacity ≡ setting.capacity
   pub drop_802_3 : basis.config.drop_802_3 ≡ setting.flags.drop_802_3
   pub deny : basis.config.deny ≡ []
-  pub state : basis.state ≡ state_of setting
+  pub state : basis.state ≡ setting_state setting
   pub chosen : basis.chosen ≡ []
 
 -- a code, two hexadecimal digits a byte
@@ -39,14 +39,14 @@ pub record IsCodeOf (setting : Setting) (code : List ℕ) : Type 0 where
   pub short : length code ≤ need_of basis
 
 -- the base, without denied ethertypes and keepalives, is to fit the capacity
-abbrev pub room_refusal : Setting → Option Refusal
-room_refusal setting =
+abbrev pub setting_refusal : Setting → Option Refusal
+setting_refusal setting =
     if nat_lt (limit_for setting.capacity) (base_for 0 0) then Some (TooLarge (base_for 0 0) (limit_for setting.capacity)) else None
 
 -- a code that means the setting, where its base fits
 abbrev pub generates : Setting → Plan (List ℕ)
 generates setting = do
-  _ ← unless (room_refusal setting)
+  _ ← unless (setting_refusal setting)
   picks (IsCodeOf setting)
 
 -- one line, of a code that means the setting
@@ -56,5 +56,5 @@ program_plan setting = do
   says (code_line code ∷ [])
 
 -- `program MAC CAPACITY ADDRESS FLAGS`
-abbrev pub program_meaning : List ℕ → List ℕ → List ℕ → List ℕ → Meaning
+abbrev pub program_meaning : List ℕ → List ℕ → List ℕ → List ℕ → CommandMeaning
 program_meaning mac capacity address flags = spelled (setting_for mac capacity address flags) (λ setting. command (program_plan setting))

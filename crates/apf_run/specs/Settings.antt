@@ -2,7 +2,7 @@
 use Rattle.std.specs.Prelude.{ℕ, Bool, true, false, List, nat_le, codes, Option, None, Some, if◌then◌else◌}
 use Rattle.std.specs.Str.{bytes_eq}
 use Rattle.apf_coding.specs.Reading.{◌>>=◌}
-use Rattle.plain_text.specs.Numbers.{number_of}
+use Rattle.plain_text.specs.Numbers.{number_within}
 use Rattle.policy_state.specs.declared.state.Address.{Address}
 use Rattle.script_text.specs.WordReading.{mac_of, address_of}
 use Rattle.apf_run.specs.declared.setting.Flags.{Flags}
@@ -10,6 +10,7 @@ use Rattle.apf_run.specs.declared.setting.MadeWords.{MadeWords}
 use Rattle.apf_run.specs.declared.setting.ProgramWords.{ProgramWords}
 use Rattle.apf_run.specs.declared.setting.What.{What}
 use Rattle.apf_run.specs.declared.setting.What.TheVariants.{Script, Capture, Summary}
+use Rattle.policy_state.specs.Limits.{capacity_least, capacity_most}
 
 -- ---- the values of `program`
 
@@ -22,8 +23,8 @@ pub record Setting : Type 0 where
 
 abbrev pub capacity_of : List ℕ → Option ℕ
 capacity_of word = do
-  n ← number_of 8192 word
-  if nat_le 128 n then Some n else None
+  n ← number_within capacity_most word
+  if nat_le capacity_least n then Some n else None
 
 -- `none`, or an address whose prefix is one
 abbrev pub host_address_of : List ℕ → Option (Option Address)
@@ -74,7 +75,7 @@ what_of word =
 -- 1 to 100000
 abbrev pub count_of : List ℕ → Option ℕ
 count_of word = do
-  n ← number_of 100000 word
+  n ← number_within 100000 word
   if nat_le 1 n then Some n else None
 
 -- what is made, and of how many frames

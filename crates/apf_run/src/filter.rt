@@ -7,6 +7,7 @@ ghost use Rattle.policy_state.specs.declared.basis.Script.{Script as ScriptValue
 ghost use Rattle.command_plan.specs.Follows.{Follows, Thinks, Writes, answer, stage};
 ghost use Rattle.command_plan.specs.Plan.{MayFetch};
 ghost use Rattle.apf_run.specs.Filter.{HasBegun, begins, filter_plan, filters, reads_script, replays};
+ghost use Rattle.apf_base.specs.Limits.{capture_limit, script_limit};
 
 use apf_base::{Shelf, Sink, Source};
 use command_plan::{Fault, FileKind, Files, Input, Lines, Refusal};
@@ -30,7 +31,7 @@ const CAPTURE: Input = Input {
 
 // The script of a text.
 fn script_of(alloc: Global, text: &[u8]) -> Result<Script, Fault>
-    requires { length text.now ≤ 1048576 }
+    requires { length text.now ≤ script_limit }
     ensures script { Thinks (reads_script text.now) result }
     ensures sound { IfOk result IsScript }
     ensures few_events { IfOk result (λ script. length script.events < 2 ^ 32) }
@@ -64,7 +65,7 @@ fn replay<O: Lines>(
     bytes: &[u8],
     out: &mut O,
 ) -> Result<(), Fault>
-    requires short { length bytes.now ≤ 67108864 }
+    requires short { length bytes.now ≤ capture_limit }
     requires none { filtering.frames ≡ 0 }
     ensures { (script : ScriptValue) (line : Items ℕ) → HasBegun script filtering (line ∷ [])
         → Writes (replays script line bytes.now) (O.seen out.old) (O.seen out.new) result }

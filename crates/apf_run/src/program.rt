@@ -13,7 +13,7 @@ use apf_base::{List, OutOfMemory, Sink};
 use apf_generate::generate;
 use command_plan::{Fault, Lines, Refusal};
 use policy_state::{Basis, Config, FilterState};
-use size_fit::base;
+use size_fit::{base, limit};
 use std::alloc::Global;
 
 // What the program is made from: nothing is denied, and no keepalive was sent.
@@ -43,7 +43,7 @@ fn code_of(alloc: Global, values: &ProgramWords) -> Result<List<u8>, Fault>
 {
     let basis = basis_of(alloc, values);
     let need = base(&basis.config, &basis.state);
-    let limit = basis.config.capacity - 128;
+    let limit = limit(&basis.config);
     if limit < need {
         return Err(Fault::Refused(Refusal::TooLarge { need, limit }));
     }

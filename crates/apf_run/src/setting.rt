@@ -1,6 +1,7 @@
 //! What `program` generates a program for, and what `make` makes.
 
 ghost use Rattle.std.specs.Prelude.{◌≤◌};
+ghost use Rattle.policy_state.specs.Limits.{capacity_least, capacity_most};
 
 use policy_state::Address;
 
@@ -24,8 +25,8 @@ pub struct ProgramWords {
     pub capacity: u32,
     pub address: Option<Address>,
     pub flags: Flags,
-    pub ghost least: { 128 ≤ capacity },
-    pub ghost most: { capacity ≤ 8192 },
+    pub ghost least: { capacity_least ≤ capacity },
+    pub ghost most: { capacity ≤ capacity_most },
 }
 
 /// What `make` writes.

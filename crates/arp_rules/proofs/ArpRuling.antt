@@ -20,7 +20,7 @@ use Rattle.policy_state.specs.Ethernet.{ethertype, destination, broadcast}
 use Rattle.policy_state.specs.Policy.{arp_opening, arp_operation, arp_sender, arp_target, gratuitous_arp, arp_for_other_hosts, arp_lines, arp}
 use Rattle.policy_state.proofs.AskingLaws.{otherwise-assoc, otherwise-silent, reading-cond, when-not}
 use Rattle.policy_state.proofs.FieldsSeen.{number_seen, bytes_seen}
-use Rattle.apf_asm.specs.Saying.{Tells}
+use Rattle.apf_asm.specs.Saying.{TellsSaid}
 use Rattle.apf_asm.proofs.Rules.{Yields, done, restated, counts, places, reads_half, reads_word, answers, answers_if, answers_unless, skips_if, told}
 use Rattle.arp_rules.specs.Listing.{reply_items, target_items, operation_items, packet_items, arp_items}
 use Rattle.policy_state.specs.Rulings.{said_of}
@@ -158,7 +158,7 @@ packet_apart : (next : ℕ) (address : Option Address) → stands next (packet_i
 unfolding stands
 packet_apart next address = both_false (eqb (next + 1) next) (stands next (target_items address)) (above next) (target_apart next address)
 
-pub arp_tells : (basis : Basis) (next : ℕ) → 2 ≤ next → Tells (λ age frame. said_of (arp basis frame)) (arp_items next basis.state.address)
+pub arp_tells : (basis : Basis) (next : ℕ) → 2 ≤ next → TellsSaid (λ age frame. said_of (arp basis frame)) (arp_items next basis.state.address)
 arp_tells basis next le = told rulings (λ age frame. arp basis frame) _ (λ n frame age m ready.
     restated rulings n frame m m.r0 m.r1 _ _ _ (arp_same (ethertype frame) _ _ (lines_same basis frame))
     (reads_half rulings n frame m m.r0 m.r1 1 12 _ _ (ethertype frame) (number_seen frame 12 2) (λ e.

@@ -14,7 +14,7 @@ use Rattle.policy_state.specs.Ethernet.{ethertype}
 use Rattle.policy_state.specs.Policy.{is_denied, link}
 use Rattle.policy_state.proofs.AskingLaws.{otherwise-silent, otherwise-when}
 use Rattle.policy_state.proofs.FieldsSeen.{number_seen}
-use Rattle.apf_asm.specs.Saying.{counted, Tells}
+use Rattle.apf_asm.specs.Saying.{counted, TellsSaid}
 use Rattle.apf_asm.proofs.Rules.{Yields, done, restated, counts, reads_half, answers_if, told}
 use Rattle.arp_rules.specs.Listing.{length_items, deny_items, denied_items, link_items}
 use Rattle.policy_state.specs.Rulings.{said_of}
@@ -60,7 +60,7 @@ module _ (n : ℕ) (frame : List ℕ) (m : State) where
       (all_denied deny e _))
   with_lengths false deny e r1 = all_denied deny e r1
 
-pub link_tells : (basis : Basis) → Tells (λ age frame. said_of (link basis frame)) (link_items basis)
+pub link_tells : (basis : Basis) → TellsSaid (λ age frame. said_of (link basis frame)) (link_items basis)
 link_tells basis = told rulings (λ age frame. link basis frame) _ (λ n frame age m ready.
     restated rulings n frame m m.r0 m.r1 _ _ _ (link_same basis.config.drop_802_3 basis.config.deny (ethertype frame))
     (reads_half rulings n frame m m.r0 m.r1 1 12 _ _ (ethertype frame) (number_seen frame 12 2) (λ e.

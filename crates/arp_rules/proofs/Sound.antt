@@ -18,8 +18,10 @@ use Rattle.apf_asm.specs.Building.{to_end, load, count, jump_if}
 use Rattle.apf_asm.specs.Fragment.{AreFresh, IsFragment, labels}
 use Rattle.apf_asm.proofs.Forms.{IsSound, stands-here, bytes_fit, sound-nil, sound-append, sound-byte, sound-if_end, sound-if_label, sound-jump_end, sound-unless_end, sound-label, sound-count}
 use Rattle.apf_asm.proofs.Parts.{fragment-of}
-use Rattle.arp_rules.specs.Listing.{length_items, deny_items, denied_items, link_items, reply_items, target_items, packet_items, arp_items, IsInRange}
+use Rattle.arp_rules.specs.Listing.{length_items, deny_items, denied_items, link_items, reply_items, target_items, packet_items, arp_items, IsAddressInRange}
 use Rattle.policy_state.proofs.Rulings.{has_word}
+use Rattle.policy_state.specs.Rooms.{arp_room, link_room}
+use Rattle.policy_state.specs.Weights.{denied_weight}
 
 -- ---- the Ethernet header
 
@@ -33,7 +35,7 @@ sound-length : (on : Bool) (xs : List Item) → IsSound xs → IsSound (length_i
 sound-length true xs s = sound-count (number_of Dropped8023Frame) _ (has_word Dropped8023Frame) (sound-if_end Jlt 0x600 Drop xs refl (lit< tt) s)
 sound-length false xs s = s
 
-wide-deny : (deny : List ℕ) → wide_length (deny_items deny) ≡ 9 * length deny
+wide-deny : (deny : List ℕ) → wide_length (deny_items deny) ≡ denied_weight * length deny
 wide-deny [] = refl
 wide-deny (d ∷ deny) = omega (arith, wide-deny deny, sum_by-cons wide_size (jump_if Jeq d (to_end Drop)) (deny_items deny))
 
@@ -47,7 +49,7 @@ unfolding labels
 labels-link true deny = labels-deny deny
 labels-link false deny = labels-deny deny
 
-wide-link : (basis : Basis) → wide_length (link_items basis) ≤ 20 + 9 * length basis.config.deny
+wide-link : (basis : Basis) → wide_length (link_items basis) ≤ link_room + denied_weight * length basis.config.deny
 wide-link basis =
     omega (
       arith,
@@ -65,7 +67,7 @@ fresh-none : (next : ℕ) (ls : List ℕ) → ls ≡ [] → AreFresh next next l
 fresh-none next [] e = tt
 fresh-none next (l ∷ ls) e = absurd cc
 
-pub link_fragment : (basis : Basis) (next : ℕ) → All (λ d. d < 2 ^ 16) basis.config.deny → IsFragment next next (20 + 9 * length basis.config.deny) (link_items basis)
+pub link_fragment : (basis : Basis) (next : ℕ) → All (λ d. d < 2 ^ 16) basis.config.deny → IsFragment next next (link_room + denied_weight * length basis.config.deny) (link_items basis)
 unfolding labels
 link_fragment basis next fits =
     let deny = basis.config.deny in
@@ -85,7 +87,7 @@ sound-reply =
     (sound-byte Ldw 0 28 _ refl (lit< tt) (lit< tt) (sound-count (number_of DroppedArpReplySpaNoHost) _ (has_word DroppedArpReplySpaNoHost) (sound-if_end Jeq 0 Drop _ refl (lit< tt)
     (sound-byte Li 0 0 _ refl (lit< tt) (lit< tt) (sound-count (number_of PassedArpUnicastReply) _ (has_word PassedArpUnicastReply) (sound-unless_end broadcast Pass [] (lit< tt) (lit≤ tt) (bytes_fit broadcast refl) sound-nil)))))))
 
-sound-target : (address : Option Address) → IsInRange address → IsSound (target_items address)
+sound-target : (address : Option Address) → IsAddressInRange address → IsSound (target_items address)
 sound-target None fits =
     sound-byte Ldw 0 38 _ refl (lit< tt) (lit< tt) (sound-count (number_of DroppedGarpReply) _ (has_word DroppedGarpReply) (sound-if_end Jeq 0 Drop _ refl (lit< tt)
     (sound-count (number_of PassedArp) _ (has_word PassedArp) (sound-jump_end Pass [] sound-nil))))
@@ -93,20 +95,20 @@ sound-target (Some address) fits =
     sound-byte Ldw 0 38 _ refl (lit< tt) (lit< tt) (sound-count (number_of DroppedArpOtherHost) _ (has_word DroppedArpOtherHost) (sound-if_end Jne address.ip Drop _ refl fits
     (sound-count (number_of PassedArp) _ (has_word PassedArp) (sound-jump_end Pass [] sound-nil))))
 
-sound-packet : (request : ℕ) (address : Option Address) → IsInRange address → IsSound (packet_items request address)
+sound-packet : (request : ℕ) (address : Option Address) → IsAddressInRange address → IsSound (packet_items request address)
 sound-packet request address fits =
     sound-byte Li 0 14 _ refl (lit< tt) (lit< tt) (sound-count (number_of PassedArpNonIpv4) _ (has_word PassedArpNonIpv4) (sound-unless_end arp_opening Pass _ (lit< tt) (lit≤ tt) (bytes_fit arp_opening refl)
     (sound-byte Ldh 0 20 _ refl (lit< tt) (lit< tt)
     (sound-if_label Jeq 1 request (reply_items ++ (items.Label request ∷ target_items address)) refl (lit< tt) (stands-here request reply_items (target_items address))
     (sound-append reply_items (items.Label request ∷ target_items address) sound-reply (sound-label request (target_items address) (sound-target address fits)))))))
 
-sound-arp : (next : ℕ) (address : Option Address) → IsInRange address → IsSound (arp_items next address)
+sound-arp : (next : ℕ) (address : Option Address) → IsAddressInRange address → IsSound (arp_items next address)
 sound-arp next address fits =
     sound-byte Ldh 0 12 _ refl (lit< tt) (lit< tt)
     (sound-if_label Jne 0x806 next (packet_items (next + 1) address ++ (items.Label next ∷ [])) refl (lit< tt) (stands-here next (packet_items (next + 1) address) [])
     (sound-append (packet_items (next + 1) address) (items.Label next ∷ []) (sound-packet (next + 1) address fits) (sound-label next [] sound-nil)))
 
-wide-arp : (next : ℕ) (address : Option Address) → wide_length (arp_items next address) ≤ 112
+wide-arp : (next : ℕ) (address : Option Address) → wide_length (arp_items next address) ≤ arp_room
 wide-arp next None = lit≤ tt
 wide-arp next (Some address) = lit≤ tt
 
@@ -118,9 +120,9 @@ labels-arp next (Some address) = refl
 fresh-two : (next : ℕ) (ls : List ℕ) → ls ≡ (next + 1) ∷ next ∷ [] → AreFresh next (next + 2) ls
 fresh-two next ls e = rw e (omega arith, omega arith, ((λ h. absurd (omega arith)), tt), (omega arith, omega arith, tt, tt))
 
-pub arp_fragment : (next : ℕ) (address : Option Address) → IsInRange address → IsFragment next (next + 2) 112 (arp_items next address)
+pub arp_fragment : (next : ℕ) (address : Option Address) → IsAddressInRange address → IsFragment next (next + 2) arp_room (arp_items next address)
 arp_fragment next address fits =
-    fragment-of next (next + 2) 112 (arp_items next address)
+    fragment-of next (next + 2) arp_room (arp_items next address)
     (sound-arp next address fits)
     (omega arith)
     (fresh-two next _ (labels-arp next address))

@@ -63,6 +63,6 @@ arp_items next address = load Ldh 12 ∷ jump_if Jne 0x806 (targets.Label next) 
 -- ---- what is known of the host's address
 
 -- it is a number of four bytes
-abbrev pub IsInRange : Option Address → Type 0
-IsInRange None = Unit {0}
-IsInRange (Some address) = address.ip < 2 ^ 32
+abbrev pub IsAddressInRange : Option Address → Type 0
+IsAddressInRange None = Unit {0}
+IsAddressInRange (Some address) = address.ip < 2 ^ 32

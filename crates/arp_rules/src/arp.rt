@@ -4,8 +4,9 @@ ghost use Rattle.std.specs.Prelude.{◌≡◌, ◌+◌, ◌≤◌, ◌++◌, OnO
 ghost use Rattle.apf_coding.specs.Writing.{Extends};
 ghost use Rattle.policy_state.specs.Policy.{arp};
 ghost use Rattle.apf_asm.specs.Fragment.{Emits};
-ghost use Rattle.arp_rules.specs.Listing.{reply_items, target_items, packet_items, arp_items, IsInRange};
+ghost use Rattle.arp_rules.specs.Listing.{reply_items, target_items, packet_items, arp_items, IsAddressInRange};
 ghost use Rattle.policy_state.specs.Rulings.{said_of};
+ghost use Rattle.policy_state.specs.Rooms.{arp_room};
 
 use apf_asm::{Item, Target, count, jump, jump_if, jump_unless, load, place, to_end};
 use apf_base::{List, OutOfMemory};
@@ -48,7 +49,7 @@ fn add_target(
     out: &mut List<Item>,
 ) -> Result<(), OutOfMemory>
     ensures ok { OnOk result (out.new ≡ out.old ++ target_items address) }
-    ensures fits { OnOk result (IsInRange address) }
+    ensures fits { OnOk result (IsAddressInRange address) }
     ensures err { OnErr result (out.new ≡ out.old) }
 {
     let (counter, op, number) = match address {
@@ -75,7 +76,7 @@ fn add_packet(
     out: &mut List<Item>,
 ) -> Result<(), OutOfMemory>
     ensures ok { OnOk result (out.new ≡ out.old ++ packet_items request address) }
-    ensures fits { OnOk result (IsInRange address) }
+    ensures fits { OnOk result (IsAddressInRange address) }
     ensures err { OnErr result (Extends out.old out.new) }
 {
     let other = jump_unless(alloc, &ETHERNET_AND_IPV4, to_end(Verdict::Pass))?;
@@ -104,7 +105,7 @@ fn add_arp(
 ) -> Result<(), OutOfMemory>
     requires { next ≤ 1000000 }
     ensures ok { OnOk result (out.new ≡ out.old ++ arp_items next address) }
-    ensures fits { OnOk result (IsInRange address) }
+    ensures fits { OnOk result (IsAddressInRange address) }
     ensures err { OnErr result (Extends out.old out.new) }
 {
     out.append(List::of(
@@ -129,7 +130,7 @@ pub fn emit_arp(
 ) -> Result<(), OutOfMemory>
     requires low { 2 ≤ next.old }
     requires high { next.old ≤ 1000000 }
-    ensures ok { OnOk result (Emits (λ age frame. said_of (arp basis.now frame)) 112 next.old next.new out.old out.new) }
+    ensures ok { OnOk result (Emits (λ age frame. said_of (arp basis.now frame)) arp_room next.old next.new out.old out.new) }
     ensures err { OnErr result (out.new ≡ out.old) }
     ensures next { OnErr result (next.new ≡ next.old) }
 {

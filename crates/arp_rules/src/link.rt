@@ -8,6 +8,8 @@ ghost use Rattle.apf_asm.specs.Building.{load};
 ghost use Rattle.apf_asm.specs.Fragment.{Emits};
 ghost use Rattle.arp_rules.specs.Listing.{length_items, denied_items, link_items};
 ghost use Rattle.policy_state.specs.Rulings.{said_of};
+ghost use Rattle.policy_state.specs.Rooms.{link_room};
+ghost use Rattle.policy_state.specs.Weights.{denied_weight};
 
 use apf_asm::{Item, count, jump_if, load, to_end};
 use apf_base::{List, OutOfMemory};
@@ -65,7 +67,7 @@ pub fn emit_link(
 ) -> Result<(), OutOfMemory>
     requires low { 2 ≤ next.old }
     requires high { next.old ≤ 1000000 }
-    ensures ok { OnOk result (Emits (λ age frame. said_of (link basis.now frame)) (20 + 9 * length basis.now.config.deny) next.old next.new out.old out.new) }
+    ensures ok { OnOk result (Emits (λ age frame. said_of (link basis.now frame)) (link_room + denied_weight * length basis.now.config.deny) next.old next.new out.old out.new) }
     ensures err { OnErr result (out.new ≡ out.old) }
     ensures next { OnErr result (next.new ≡ next.old) }
 {

@@ -3,9 +3,9 @@ use Rattle.std.specs.Prelude.{ℕ, Bool, true, false, List, Option, None, Some}
 use Rattle.std.specs.Option.{option_map}
 use Rattle.pcap_files.specs.Capture.{capture, frames}
 use Rattle.pcap_files.specs.declared.fault.PcapError.{PcapError}
-use Rattle.plain_text.specs.Numbers.{number_of}
+use Rattle.plain_text.specs.Numbers.{number_within}
 use Rattle.command_plan.specs.Files.{input}
-use Rattle.command_plan.specs.Meaning.{Meaning, command, spelled}
+use Rattle.command_plan.specs.Meaning.{CommandMeaning, command, spelled}
 use Rattle.command_plan.specs.Plan.{Plan, ◌>>=◌, asks, says, unless}
 use Rattle.command_plan.specs.declared.fault.FileKind.TheVariants.{Program, Capture}
 use Rattle.command_plan.specs.declared.fault.Refusal.{Refusal}
@@ -33,5 +33,5 @@ exec_plan program capture age = do
   runs_over code bytes age
 
 -- `exec PROGRAM CAPTURE AGE`
-abbrev pub exec_meaning : List ℕ → List ℕ → List ℕ → Meaning
-exec_meaning program capture age = spelled (number_of 4294967295 age) (λ n. command (exec_plan program capture n))
+abbrev pub exec_meaning : List ℕ → List ℕ → List ℕ → CommandMeaning
+exec_meaning program capture age = spelled (number_within 4294967295 age) (λ n. command (exec_plan program capture n))

@@ -9,27 +9,28 @@ use Rattle.apf_coding.specs.declared.machine.Why.{Why}
 use Rattle.apf_coding.specs.declared.machine.Why.TheVariants.{Short, Reached, Budget, Fault}
 use Rattle.apf_coding.specs.Verdicts.{verdict_word}
 use Rattle.apf_coding.specs.Run.{run}
+use Rattle.apf_base.specs.Limits.{memory_size}
 
-abbrev pub kind_word : FaultKind → List ℕ
-kind_word Place = codes "place"
-kind_word Opcode = codes "opcode"
-kind_word Cut = codes "cut"
-kind_word Extended = codes "extended"
-kind_word Frame = codes "frame"
-kind_word Memory = codes "memory"
-kind_word Division = codes "division"
-kind_word Compare = codes "compare"
+abbrev pub fault_kind_word : FaultKind → List ℕ
+fault_kind_word Place = codes "place"
+fault_kind_word Opcode = codes "opcode"
+fault_kind_word Cut = codes "cut"
+fault_kind_word Extended = codes "extended"
+fault_kind_word Frame = codes "frame"
+fault_kind_word Memory = codes "memory"
+fault_kind_word Division = codes "division"
+fault_kind_word Compare = codes "compare"
 
 -- why a run ended
 abbrev pub why_words : Why → List ℕ
 why_words Short = codes "short"
 why_words Reached = codes "reached"
 why_words Budget = codes "budget"
-why_words (Fault kind at) = codes "fault " ++ kind_word kind ++ codes " at " ++ decimal at
+why_words (Fault kind at) = codes "fault " ++ fault_kind_word kind ++ codes " at " ++ decimal at
 
 -- the line of a frame, by its number and how the run on it ended
-unfoldable pub frame_line : ℕ → Outcome → List ℕ
-frame_line number outcome =
+unfoldable pub exec_frame_line : ℕ → Outcome → List ℕ
+exec_frame_line number outcome =
     codes "frame " ++ decimal number ++ codes " " ++ verdict_word outcome.verdict ++ codes " " ++ why_words outcome.why
     ++ codes " steps " ++ decimal outcome.steps ++ codes "\n"
 
@@ -48,8 +49,8 @@ abbrev pub lines_from : Bool → List ℕ → ℕ → ℕ → List ℕ → List 
 lines_from whole program age number memory [] = closing whole memory
 lines_from whole program age number memory (frame ∷ frames) =
     let done = run program memory frame age in
-    frame_line number done.outcome ∷ lines_from whole program age (number + 1) done.memory frames
+    exec_frame_line number done.outcome ∷ lines_from whole program age (number + 1) done.memory frames
 
 -- a program over frames: frames count from 1, and the memory begins with 128 zeros
 abbrev pub exec_lines : Bool → List ℕ → List (List ℕ) → ℕ → List (List ℕ)
-exec_lines whole program frames age = lines_from whole program age 1 (replicate 128 0) frames
+exec_lines whole program frames age = lines_from whole program age 1 (replicate memory_size 0) frames

@@ -2,11 +2,12 @@
 #![tactic(auto, using(command_plan::proofs::Rules::following, command_plan::proofs::Rules::fetching))]
 
 ghost use Rattle.std.specs.Prelude.{◌≡◌, ◌≤◌, length, All, IfOk};
-ghost use Rattle.apf_asm.specs.Items.{IsItemForm};
+ghost use Rattle.apf_asm.specs.Items.{IsItemForm, item_limit};
 ghost use Rattle.apf_asm.specs.TextReading.{text_answer};
 ghost use Rattle.command_plan.specs.Follows.{Follows, Thinks, stage};
 ghost use Rattle.command_plan.specs.Plan.{MayFetch};
 ghost use Rattle.code_commands.specs.Asm.{asm_plan, assembles, reads_code, reads_items};
+ghost use Rattle.apf_base.specs.Limits.{text_limit};
 
 use apf_asm::{AsmError, Item, TextError, assemble_bytes, read_text};
 use apf_base::{List, Shelf, Sink, Source};
@@ -21,9 +22,9 @@ const TEXT: Input = Input {
 
 // The items of a text.
 fn items_of(alloc: Global, text: &[u8]) -> Result<List<Item>, Fault>
-    requires { length text.now ≤ 1048576 }
+    requires { length text.now ≤ text_limit }
     ensures items { Thinks (reads_items (text_answer text.now)) result }
-    ensures few { IfOk result (λ items. length items ≤ 1048576) }
+    ensures few { IfOk result (λ items. length items ≤ item_limit) }
     ensures forms { IfOk result (λ items. All IsItemForm items) }
 {
     match read_text(alloc, text) {
@@ -35,7 +36,7 @@ fn items_of(alloc: Global, text: &[u8]) -> Result<List<Item>, Fault>
 
 // The code of items.
 fn code_of(alloc: Global, items: &[Item]) -> Result<List<u8>, Fault>
-    requires few { length items.now ≤ 1048576 }
+    requires few { length items.now ≤ item_limit }
     requires forms { All IsItemForm items.now }
     ensures { Thinks (assembles items.now) result }
 {
@@ -55,7 +56,7 @@ fn code_of(alloc: Global, items: &[Item]) -> Result<List<u8>, Fault>
 
 // The code of a text.
 fn assembled(alloc: Global, text: &[u8]) -> Result<List<u8>, Fault>
-    requires { length text.now ≤ 1048576 }
+    requires { length text.now ≤ text_limit }
     ensures { Thinks (reads_code text.now) result }
 {
     let items = items_of(alloc, text)?;

@@ -8,9 +8,10 @@ ghost use Rattle.command_plan.specs.Meaning.{Does, MayFetchFor};
 ghost use Rattle.command_plan.specs.Plan.{MayFetch, says, unless};
 ghost use Rattle.code_commands.specs.Exec.{exec_meaning, exec_plan, runs_over, refusal_by, is_whole};
 ghost use Rattle.code_commands.specs.ExecText.{exec_lines};
+ghost use Rattle.apf_base.specs.Limits.{capture_limit, program_limit};
 
 use crate::report::{frame_line, memory_line};
-use apf_base::{Shelf, Sink, Source};
+use apf_base::{MEMORY_SIZE, Shelf, Sink, Source};
 use apf_interp::interpret;
 use command_plan::{Fault, FileKind, Files, Input, Lines, Refusal};
 use pcap_files::{PcapError, Placed, frame_at, records};
@@ -39,12 +40,12 @@ fn write_frames<O: Lines>(
     whole: bool,
     out: &mut O,
 ) -> Result<(), Fault>
-    requires program { length program.now ≤ 65535 }
+    requires program { length program.now ≤ program_limit }
     requires records { All (IsWithin (length capture.now)) records.now }
     ensures { Writes (says (exec_lines whole program.now (map (frame_of capture.now) records.now) age))
         (O.seen out.old) (O.seen out.new) result }
 {
-    let mut memory = [0u8; 128];
+    let mut memory = [0u8; MEMORY_SIZE];
     let mut number = 1u64;
     for placed in records {
         let frame = frame_at(capture, placed);
@@ -84,8 +85,8 @@ fn run_over<O: Lines>(
     age: u32,
     out: &mut O,
 ) -> Result<(), Fault>
-    requires program { length program.now ≤ 65535 }
-    requires bytes { length bytes.now ≤ 67108864 }
+    requires program { length program.now ≤ program_limit }
+    requires bytes { length bytes.now ≤ capture_limit }
     ensures { Writes (runs_over program.now bytes.now age) (O.seen out.old) (O.seen out.new) result }
 {
     let found = records(alloc, bytes)?;

@@ -7,6 +7,7 @@ ghost use Rattle.apf_disasm.specs.Printing.{IsReadable, line_text};
 ghost use Rattle.command_plan.specs.Follows.{Follows, Writes, stage};
 ghost use Rattle.command_plan.specs.Plan.{MayFetch, says};
 ghost use Rattle.code_commands.specs.Disasm.{disasm_plan, lists};
+ghost use Rattle.apf_base.specs.Limits.{program_limit};
 
 use crate::execution::PROGRAM;
 use apf_base::{Shelf, Sink, Source};
@@ -29,7 +30,7 @@ fn write_lines<O: Lines>(alloc: Global, lines: &[Line<'_>], out: &mut O) -> Resu
 
 // Lists a program, and writes the lines.
 fn write_listing<O: Lines>(alloc: Global, program: &[u8], out: &mut O) -> Result<(), Fault>
-    requires { length program.now ≤ 65535 }
+    requires { length program.now ≤ program_limit }
     ensures { Writes (lists program.now) (O.seen out.old) (O.seen out.new) result }
 {
     let lines = list(alloc, program)?;

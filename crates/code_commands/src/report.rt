@@ -1,14 +1,14 @@
 //! The lines that `exec` writes.
 
 ghost use Rattle.std.specs.Prelude.{◌≡◌, IfOk, string_bytes};
-ghost use Rattle.code_commands.specs.ExecText.{kind_word, frame_line, memory_line};
+ghost use Rattle.code_commands.specs.ExecText.{fault_kind_word, exec_frame_line, memory_line};
 
 use apf_base::OutOfMemory;
 use apf_interp::{FaultKind, Outcome, Why};
 use std::alloc::Global;
 
 fn kind_word(kind: FaultKind) -> &'static str
-    ensures { result.now ≡ kind_word kind }
+    ensures { result.now ≡ fault_kind_word kind }
 {
     match kind {
         FaultKind::Place => "place",
@@ -23,9 +23,9 @@ fn kind_word(kind: FaultKind) -> &'static str
 }
 
 /// The line of a frame: its number and how the run on it ended.
-#[tactic(auto, unfolding(crate::specs::ExecText::frame_line, apf_coding::specs::Verdicts::verdict_word))]
+#[tactic(auto, unfolding(crate::specs::ExecText::exec_frame_line, apf_coding::specs::Verdicts::verdict_word))]
 pub fn frame_line(alloc: Global, number: u64, outcome: Outcome) -> Result<String, OutOfMemory>
-    ensures { IfOk result (λ line. string_bytes line ≡ frame_line number outcome) }
+    ensures { IfOk result (λ line. string_bytes line ≡ exec_frame_line number outcome) }
 {
     let verdict = outcome.verdict.name();
     let steps = outcome.steps;

@@ -13,7 +13,7 @@ use Rattle.command_plan.specs.declared.fault.Fault.TheVariants as faults
 use Rattle.command_plan.specs.Files.{FileFails}
 use Rattle.command_plan.specs.declared.fault.Input.{Input}
 use Rattle.command_plan.specs.Ending.{MayEnd, Leaves, IsOwn, Calm}
-use Rattle.command_plan.specs.Meaning.{Meaning, nothing, command, IsAccepted, Does, IsQuietFor, MayEndBy, ReadsWholeFor}
+use Rattle.command_plan.specs.Meaning.{CommandMeaning, nothing, command, IsAccepted, Does, IsQuietFor, MayEndBy, ReadsWholeFor}
 use Rattle.command_plan.specs.Status.{status_of, refusal_status}
 use Rattle.command_plan.specs.Plan.{Plan, Done, Refuse, Ask, Pick, Say, IsQuiet, MayRefuse, ReadsWhole}
 use Rattle.command_plan.specs.Follows.{Stage, Later, Asks, Picks, Says, Ends, Follows}
@@ -364,23 +364,23 @@ neither n s (inl h) is a b = absurd (a (sym is ∙ h))
 neither n s (inr h) is a b = absurd (b (sym is ∙ h))
 
 module _ (a b : Stage) (end : Result (Unit {0}) Fault) where
-  pub does_later : (m : Meaning) → Does m a b end → Later a b
+  pub does_later : (m : CommandMeaning) → Does m a b end → Later a b
   does_later nothing (f.Ends.no_memory h) = h.idle.later
   does_later nothing (f.Ends.ended is s) = s.idle.later
   does_later (command p) h = later p a b end h
 
-  pub does_stands : (m : Meaning) → Does m a b end → (lines : List (List ℕ)) × MayEndBy m a.shelf.file lines end × Leaves a.out.held b.out.held lines end
+  pub does_stands : (m : CommandMeaning) → Does m a b end → (lines : List (List ℕ)) × MayEndBy m a.shelf.file lines end × Leaves a.out.held b.out.held lines end
   does_stands nothing (f.Ends.no_memory h) = ([], (refl, inr h.is), leaves_nothing a.out.held b.out.held end h.idle.held)
   does_stands nothing (f.Ends.ended is s) = ([], (refl, inl is), leaves_nothing a.out.held b.out.held end s.idle.held)
   does_stands (command p) h = stands p a b end h
 
-  does_own : (m : Meaning) → Does m a b end → Calm a b → (end ≡ Err faults.OutOfMemory) ⊎ IsOwn end
+  does_own : (m : CommandMeaning) → Does m a b end → Calm a b → (end ≡ Err faults.OutOfMemory) ⊎ IsOwn end
   does_own nothing (f.Ends.no_memory h) q = inl h.is
   does_own nothing (f.Ends.ended is s) q = inr (subst (λ (e : Result (Unit {0}) Fault). IsOwn e) (sym is) tt)
   does_own (command p) h q = own a b end (owes p a b end h) q
 
   -- where no count rose, the call came to an end of its own and wrote all lines, but for want of memory
-  pub does_complete : (m : Meaning) → Does m a b end → Calm a b
+  pub does_complete : (m : CommandMeaning) → Does m a b end → Calm a b
       → (status_of end ≡ 70) ⊎ (IsOwn end × (lines : List (List ℕ)) × MayEndBy m a.shelf.file lines end × AppendsAll a.out.held b.out.held lines)
   does_complete m h q =
       let s = does_stands m h in
@@ -389,31 +389,31 @@ module _ (a b : Stage) (end : Result (Unit {0}) Fault) where
         | inr o ↦ inr (o, s.0, s.1, leaves_all a.out.held b.out.held s.0 end (own_written end o) s.2)
       ]
 
-  pub does_read : (m : Meaning) → Does m a b end → status_of end ≡ 71 → Rose a.shelf.faults b.shelf.faults
+  pub does_read : (m : CommandMeaning) → Does m a b end → status_of end ≡ 71 → Rose a.shelf.faults b.shelf.faults
   does_read nothing h is = neither 71 (status_of end) (wrong a b end h) is (λ e. omega arith) (λ e. omega arith)
   does_read (command p) h is = read_owes a b end (owes p a b end h) is
 
-  pub does_write : (m : Meaning) → Does m a b end → status_of end ≡ 72 → Rose a.out.faults b.out.faults
+  pub does_write : (m : CommandMeaning) → Does m a b end → status_of end ≡ 72 → Rose a.out.faults b.out.faults
   does_write nothing h is = neither 72 (status_of end) (wrong a b end h) is (λ e. omega arith) (λ e. omega arith)
   does_write (command p) h is = write_owes a b end (owes p a b end h) is
 
-  pub does_open : (m : Meaning) → Does m a b end → status_of end ≡ 73 → Rose a.shelf.misses b.shelf.misses
+  pub does_open : (m : CommandMeaning) → Does m a b end → status_of end ≡ 73 → Rose a.shelf.misses b.shelf.misses
   does_open nothing h is = neither 73 (status_of end) (wrong a b end h) is (λ e. omega arith) (λ e. omega arith)
   does_open (command p) h is = open_owes a b end (owes p a b end h) is
 
-  pub does_usage : (m : Meaning) → Does m a b end → status_of end ≡ 64 → IsAccepted m → ⊥
+  pub does_usage : (m : CommandMeaning) → Does m a b end → status_of end ≡ 64 → IsAccepted m → ⊥
   does_usage nothing h is accepted = accepted
   does_usage (command p) h is accepted = usage_owes a b end (owes p a b end h) is
 
-  pub does_refuse : (m : Meaning) → Does m a b end → (IsAccepted m → ⊥) → (status_of end ≡ 64) ⊎ (status_of end ≡ 70)
+  pub does_refuse : (m : CommandMeaning) → Does m a b end → (IsAccepted m → ⊥) → (status_of end ≡ 64) ⊎ (status_of end ≡ 70)
   does_refuse nothing h not = wrong a b end h
   does_refuse (command p) h not = absurd (not tt)
 
-  pub does_whole : (m : Meaning) → Does m a b end → status_of end ≡ 0 → ReadsWholeFor m → IsAtEnd b.shelf.left
+  pub does_whole : (m : CommandMeaning) → Does m a b end → status_of end ≡ 0 → ReadsWholeFor m → IsAtEnd b.shelf.left
   does_whole nothing h is whole = absurd whole
   does_whole (command p) h is whole = at_end p a b end h is whole
 
-  pub does_quiet : (m : Meaning) → Does m a b end → IsQuietFor m → (status_of end ≡ 0 → ⊥) → (status_of end ≡ 65 → ⊥) → (status_of end ≡ 70 → ⊥) → (status_of end ≡ 72 → ⊥) → Keeps a.out.held b.out.held
+  pub does_quiet : (m : CommandMeaning) → Does m a b end → IsQuietFor m → (status_of end ≡ 0 → ⊥) → (status_of end ≡ 65 → ⊥) → (status_of end ≡ 70 → ⊥) → (status_of end ≡ 72 → ⊥) → Keeps a.out.held b.out.held
   does_quiet nothing (f.Ends.no_memory h) q ok capture memory write = h.idle.held
   does_quiet nothing (f.Ends.ended is s) q ok capture memory write = s.idle.held
   does_quiet (command p) h q ok capture memory write = quiet p a b end q h (by_status end ok capture memory write)

@@ -3,7 +3,7 @@ use Rattle.std.proofs.Common.{◌≡◌, ◌≤◌, ℕ, List, length, sym, None
 use Rattle.command_plan.specs.declared.fault.Input.{Input}
 use Rattle.command_plan.specs.declared.fault.Fault.TheVariants as faults
 use Rattle.command_plan.specs.declared.fault.Refusal.TheVariants.{TooLong}
-use Rattle.command_plan.specs.Files.{limit_of}
+use Rattle.command_plan.specs.Files.{file_limit}
 use Rattle.command_plan.specs.Follows.{Shelving, Sinking, Stage, Follows, Reads, Thinks, Writes, shelving, sinking, stage}
 use Rattle.command_plan.specs.Follows as f
 use Rattle.command_plan.specs.Plan.{Plan, Done, Refuse, Ask, Pick, Say, ◌>>=◌, asks, picks, says, MayFetch, MayHold}
@@ -72,5 +72,5 @@ read_held input path bytes a b (f.Asks.asked all c held idle whole (f.Ends.ended
 pub asked : (input : Input) (path bytes : List ℕ) (a b : Shelving) → Reads (asks input path) a b (Ok bytes) → MayHold input (a.file path) bytes
 asked input path bytes a b h = read_held input path bytes _ _ (h.at (sinking None 0))
 
-pub asked_fits : (input : Input) (path bytes slice : List ℕ) (a b : Shelving) → slice ≡ bytes → Reads (asks input path) a b (Ok bytes) → length slice ≤ limit_of input.kind
-asked_fits input path bytes slice a b is h = subst (λ (l : List ℕ). length l ≤ limit_of input.kind) (sym is) (asked input path bytes a b h).fits
+pub asked_fits : (input : Input) (path bytes slice : List ℕ) (a b : Shelving) → slice ≡ bytes → Reads (asks input path) a b (Ok bytes) → length slice ≤ file_limit input.kind
+asked_fits input path bytes slice a b is h = subst (λ (l : List ℕ). length l ≤ file_limit input.kind) (sym is) (asked input path bytes a b h).fits

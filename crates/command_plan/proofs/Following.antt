@@ -3,7 +3,7 @@ use Rattle.std.proofs.Common.{◌≡◌, ◌<◌, ℕ, List, length, Result, Ok,
 use Rattle.std.specs.List.{concat}
 use Rattle.std.specs.Result.{IsErrAnd}
 use Rattle.std.proofs.lemmas.Result.{err_from_is_err_and}
-use Rattle.command_plan.specs.Files.{limit_of}
+use Rattle.command_plan.specs.Files.{file_limit}
 use Rattle.command_plan.specs.declared.fault.Input.{Input}
 use Rattle.command_plan.specs.declared.fault.Refusal.{Refusal}
 use Rattle.command_plan.specs.declared.fault.Refusal.TheVariants.{TooLong}
@@ -32,7 +32,7 @@ module _ {A : Type 0} where
   before (Ask input path rest) a c b r s (f.Asks.unread h rose) =
       f.Asks.unread (ends_before (Err (faults.Read input)) a c b r s.idle h) (rose_before a.shelf.faults c.shelf.faults b.shelf.faults s.idle.later.faults rose)
   before (Ask input path rest) a c b r s (f.Asks.too_long h told) =
-      f.Asks.too_long (ends_before (Err (faults.Refused (TooLong input))) a c b r s.idle h) (told_before a c s.idle.later path (λ told. limit_of input.kind < length told) told)
+      f.Asks.too_long (ends_before (Err (faults.Refused (TooLong input))) a c b r s.idle h) (told_before a c s.idle.later path (λ told. file_limit input.kind < length told) told)
   before (Ask input path rest) a c b r s (f.Asks.asked bytes d held idle whole more) =
       f.Asks.asked bytes d (held_before input path bytes a c s.idle.later held) (idle_trans a c d s.idle idle) whole more
   before (Pick P rest) a c b r s (f.Picks.no_memory h) = f.Picks.no_memory (ends_before (Err faults.OutOfMemory) a c b r s.idle h)

@@ -2,7 +2,7 @@
 use Rattle.std.proofs.Common.{◌≡◌, ℕ, Bool, true, false, List, Option, None, Some, Result, Ok, Err, sym, subst}
 use Rattle.command_plan.specs.declared.fault.Fault.{Fault}
 use Rattle.command_plan.specs.declared.fault.Fault.TheVariants as faults
-use Rattle.command_plan.specs.Meaning.{Meaning, nothing, command, spelled, named_so, Does, MayFetchFor}
+use Rattle.command_plan.specs.Meaning.{CommandMeaning, nothing, command, spelled, named_so, Does, MayFetchFor}
 use Rattle.command_plan.specs.Plan.{Plan, says, MayFetch, ◌>>=◌}
 use Rattle.command_plan.specs.Follows as f
 use Rattle.command_plan.proofs.Stages.{idle_refl, rests_refl}
@@ -78,13 +78,13 @@ pub ruleset following = (read_then, read_as, read_fails, say_then, say_fails, th
 -- ---- words
 
 module _ (a b : Stage) (r : Result (Unit {0}) Fault) where
-  pub does_some : {X : Type 0} (o : Option X) (next : X → Meaning) (x : X) → o ≡ Some x → Does (next x) a b r → Does (spelled o next) a b r
+  pub does_some : {X : Type 0} (o : Option X) (next : X → CommandMeaning) (x : X) → o ≡ Some x → Does (next x) a b r → Does (spelled o next) a b r
   does_some {X = X} o next x is h = subst (λ (p : Option X). Does (spelled p next) a b r) (sym is) h
 
-  pub does_this : (t : Bool) (this other : Meaning) → t ≡ true → Does this a b r → Does (named_so t this other) a b r
+  pub does_this : (t : Bool) (this other : CommandMeaning) → t ≡ true → Does this a b r → Does (named_so t this other) a b r
   does_this t this other is h = subst (λ (u : Bool). Does (named_so u this other) a b r) (sym is) h
 
-  pub does_other : (t : Bool) (this other : Meaning) → t ≡ false → Does other a b r → Does (named_so t this other) a b r
+  pub does_other : (t : Bool) (this other : CommandMeaning) → t ≡ false → Does other a b r → Does (named_so t this other) a b r
   does_other t this other is h = subst (λ (u : Bool). Does (named_so u this other) a b r) (sym is) h
 
   pub does_command : (plan : Plan (Unit {0})) → Follows plan a b r → Does (command plan) a b r
@@ -93,22 +93,22 @@ module _ (a b : Stage) (r : Result (Unit {0}) Fault) where
 pub does_nothing : (a : Stage) (r : Result (Unit {0}) Fault) → r ≡ Err faults.Usage → Does nothing a a r
 does_nothing a r is = f.Ends.ended is (rests_refl a)
 
-pub does_none : {X : Type 0} (o : Option X) (next : X → Meaning) (a : Stage) (r : Result (Unit {0}) Fault) → o ≡ None → r ≡ Err faults.Usage → Does (spelled o next) a a r
+pub does_none : {X : Type 0} (o : Option X) (next : X → CommandMeaning) (a : Stage) (r : Result (Unit {0}) Fault) → o ≡ None → r ≡ Err faults.Usage → Does (spelled o next) a a r
 does_none {X = X} o next a r none is = subst (λ (p : Option X). Does (spelled p next) a a r) (sym none) (does_nothing a r is)
 
 -- words for which there was no memory
-pub does_lack : (m : Meaning) (a : Stage) (r : Result (Unit {0}) Fault) → r ≡ Err faults.OutOfMemory → Does m a a r
+pub does_lack : (m : CommandMeaning) (a : Stage) (r : Result (Unit {0}) Fault) → r ≡ Err faults.OutOfMemory → Does m a a r
 does_lack nothing a r is = f.Ends.no_memory (record { is = is; idle = idle_refl a })
 does_lack (command plan) a r is = lacks plan a a r is (idle_refl a)
 
 module _ (may : List ℕ → Type 0) where
-  pub may_some : {X : Type 0} (o : Option X) (next : X → Meaning) (x : X) → o ≡ Some x → MayFetchFor may (spelled o next) → MayFetchFor may (next x)
+  pub may_some : {X : Type 0} (o : Option X) (next : X → CommandMeaning) (x : X) → o ≡ Some x → MayFetchFor may (spelled o next) → MayFetchFor may (next x)
   may_some {X = X} o next x is h = subst (λ (p : Option X). MayFetchFor may (spelled p next)) is h
 
-  pub may_this : (t : Bool) (this other : Meaning) → t ≡ true → MayFetchFor may (named_so t this other) → MayFetchFor may this
+  pub may_this : (t : Bool) (this other : CommandMeaning) → t ≡ true → MayFetchFor may (named_so t this other) → MayFetchFor may this
   may_this t this other is h = subst (λ (u : Bool). MayFetchFor may (named_so u this other)) is h
 
-  pub may_other : (t : Bool) (this other : Meaning) → t ≡ false → MayFetchFor may (named_so t this other) → MayFetchFor may other
+  pub may_other : (t : Bool) (this other : CommandMeaning) → t ≡ false → MayFetchFor may (named_so t this other) → MayFetchFor may other
   may_other t this other is h = subst (λ (u : Bool). MayFetchFor may (named_so u this other)) is h
 
   pub may_command : (plan : Plan (Unit {0})) → MayFetchFor may (command plan) → MayFetch may plan

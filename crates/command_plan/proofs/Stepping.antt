@@ -8,14 +8,14 @@ use Rattle.command_plan.specs.declared.fault.Input.{Input}
 use Rattle.command_plan.specs.declared.fault.Refusal.TheVariants as refusals
 use Rattle.command_plan.specs.declared.fault.Fault.{Fault}
 use Rattle.command_plan.specs.declared.fault.Fault.TheVariants.{Usage, Refused, OutOfMemory, Read, Write, Open}
-use Rattle.command_plan.specs.Files.{FileFails, limit_of}
+use Rattle.command_plan.specs.Files.{FileFails, file_limit}
 use Rattle.command_plan.specs.Plan.{asks, says}
 use Rattle.command_plan.specs.Follows.{Stage, Later, Idle, Follows}
 use Rattle.command_plan.specs.Follows as f
 use Rattle.command_plan.proofs.Stages.{rests_refl}
 
 module _ (input : Input) (path : List ℕ) (a b : Stage) where
-  asks_failed : (fault : Fault) → Idle a b → FileFails input (IfSome (a.shelf.file path) (λ told. limit_of input.kind < length told)) fault
+  asks_failed : (fault : Fault) → Idle a b → FileFails input (IfSome (a.shelf.file path) (λ told. file_limit input.kind < length told)) fault
       → ((which : Input) → ◌≡◌ {A = Result (List ℕ) Fault} (Err fault) (Err (Read which)) → Rose a.shelf.faults b.shelf.faults)
       → ((which : Input) → ◌≡◌ {A = Result (List ℕ) Fault} (Err fault) (Err (Open which)) → Rose a.shelf.misses b.shelf.misses) → Follows (asks input path) a b (Err fault)
   unfolding Follows
@@ -37,8 +37,8 @@ module _ (input : Input) (path : List ℕ) (a b : Stage) where
 
   -- a file was read, or not
   pub asks_by : (result : Result (List ℕ) Fault) → Idle a b
-      → IfOk result (λ bytes. IfSome (a.shelf.file path) (λ told. bytes ≡ told)) → IfOk result (λ bytes. length bytes ≤ limit_of input.kind) → IfOk result IsBytes
-      → OnOk result (IsAtEnd b.shelf.left) → IfErr result (FileFails input (IfSome (a.shelf.file path) (λ told. limit_of input.kind < length told)))
+      → IfOk result (λ bytes. IfSome (a.shelf.file path) (λ told. bytes ≡ told)) → IfOk result (λ bytes. length bytes ≤ file_limit input.kind) → IfOk result IsBytes
+      → OnOk result (IsAtEnd b.shelf.left) → IfErr result (FileFails input (IfSome (a.shelf.file path) (λ told. file_limit input.kind < length told)))
       → ((which : Input) → result ≡ Err (Read which) → Rose a.shelf.faults b.shelf.faults)
       → ((which : Input) → result ≡ Err (Open which) → Rose a.shelf.misses b.shelf.misses) → Follows (asks input path) a b result
   unfolding Follows

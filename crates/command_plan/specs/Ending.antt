@@ -3,7 +3,7 @@ use Rattle.std.specs.Prelude.{◌≡◌, ℕ, ◌<◌, ◌⊎◌, List, [], ◌+
 use Rattle.std.specs.List.{concat}
 use Rattle.apf_base.specs.Causes.{Rose}
 use Rattle.apf_base.specs.Streams.{AppendsFront, AppendsAll}
-use Rattle.command_plan.specs.Files.{FileFails, limit_of}
+use Rattle.command_plan.specs.Files.{FileFails, file_limit}
 use Rattle.command_plan.specs.Follows.{Stage}
 use Rattle.command_plan.specs.Plan.{Plan, Done, Refuse, Ask, Pick, Say, MayHold}
 use Rattle.command_plan.specs.declared.fault.Fault.{Fault}
@@ -22,7 +22,7 @@ unfoldable pub MayEnd : {A : Type 0} → Plan A → (List ℕ → Option (List �
 MayEnd (Done x) file lines end = EndsAs (Ok x) lines end
 MayEnd (Refuse refusal) file lines end = EndsAs (Err (Refused refusal)) lines end
 MayEnd (Ask input path rest) file lines end =
-    ((lines ≡ []) × (fault : Fault) × (end ≡ Err fault) × FileFails input (IfSome (file path) (λ told. limit_of input.kind < length told)) fault)
+    ((lines ≡ []) × (fault : Fault) × (end ≡ Err fault) × FileFails input (IfSome (file path) (λ told. file_limit input.kind < length told)) fault)
     ⊎ ((bytes : List ℕ) × MayHold input (file path) bytes × MayEnd (rest bytes) file lines end)
 MayEnd (Pick {X = X} P rest) file lines end = EndsAs (Err OutOfMemory) lines end ⊎ ((x : X) × P x × MayEnd (rest x) file lines end)
 MayEnd (Say these rest) file lines end =

@@ -6,13 +6,14 @@ use Rattle.command_plan.specs.declared.fault.Input.{Input}
 use Rattle.command_plan.specs.declared.fault.Refusal.TheVariants.{TooLong}
 use Rattle.command_plan.specs.declared.fault.Fault.{Fault}
 use Rattle.command_plan.specs.declared.fault.Fault.TheVariants.{Refused, OutOfMemory, Read, Open}
+use Rattle.apf_base.specs.Limits.{capture_limit, program_limit, script_limit, text_limit}
 
 -- the most bytes of a file of each kind
-abbrev pub limit_of : FileKind → ℕ
-limit_of Program = 65535
-limit_of Text = 1048576
-limit_of Script = 1048576
-limit_of Capture = 67108864
+abbrev pub file_limit : FileKind → ℕ
+file_limit Program = program_limit
+file_limit Text = text_limit
+file_limit Script = script_limit
+file_limit Capture = capture_limit
 
 abbrev pub kind_name : FileKind → List ℕ
 kind_name Program = codes "program"

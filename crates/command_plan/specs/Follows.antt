@@ -4,7 +4,7 @@ use Rattle.std.specs.List.{concat}
 use Rattle.std.specs.Io.KnownBytes.{Keeps, IsAtEnd}
 use Rattle.apf_base.specs.Causes.{Rose}
 use Rattle.apf_base.specs.Streams.{AppendsFront, AppendsAll}
-use Rattle.command_plan.specs.Files.{limit_of}
+use Rattle.command_plan.specs.Files.{file_limit}
 use Rattle.command_plan.specs.Lines.{AppendsFirst}
 use Rattle.command_plan.specs.Plan.{Plan, Done, Refuse, Ask, Pick, Say, MayHold}
 use Rattle.command_plan.specs.declared.fault.Input.{Input}
@@ -77,7 +77,7 @@ module _ {A : Type 0} where
     no_memory : EndsHere (Err faults.OutOfMemory) a b result → Asks input path Rest a b result
     unopened : EndsHere (Err (faults.Open input)) a b result → Rose a.shelf.misses b.shelf.misses → Asks input path Rest a b result
     unread : EndsHere (Err (faults.Read input)) a b result → Rose a.shelf.faults b.shelf.faults → Asks input path Rest a b result
-    too_long : EndsHere (Err (faults.Refused (TooLong input))) a b result → IfSome (a.shelf.file path) (λ told. limit_of input.kind < length told)
+    too_long : EndsHere (Err (faults.Refused (TooLong input))) a b result → IfSome (a.shelf.file path) (λ told. file_limit input.kind < length told)
         → Asks input path Rest a b result
     asked : (bytes : List ℕ) (c : Stage) → MayHold input (a.shelf.file path) bytes → Idle a c → IsAtEnd c.shelf.left → Rest bytes c
         → Asks input path Rest a b result

@@ -7,45 +7,45 @@ use Rattle.command_plan.specs.Plan.{Plan, IsQuiet, MayFetch, ReadsWhole}
 use Rattle.command_plan.specs.declared.fault.Fault.{Fault}
 use Rattle.command_plan.specs.declared.fault.Fault.TheVariants.{Usage}
 
-pub data Meaning : Type 1 where
-  nothing : Meaning
-  command : Plan (Unit {0}) → Meaning
+pub data CommandMeaning : Type 1 where
+  nothing : CommandMeaning
+  command : Plan (Unit {0}) → CommandMeaning
 
 -- a word that spells a value, with which the meaning goes on
-abbrev pub spelled : {A : Type 0} → Option A → (A → Meaning) → Meaning
+abbrev pub spelled : {A : Type 0} → Option A → (A → CommandMeaning) → CommandMeaning
 spelled None next = nothing
 spelled (Some x) next = next x
 
 -- the meaning of a command's name: this where it is the name, and else the other
-abbrev pub named_so : Bool → Meaning → Meaning → Meaning
+abbrev pub named_so : Bool → CommandMeaning → CommandMeaning → CommandMeaning
 named_so true this other = this
 named_so false this other = other
 
-abbrev pub named : List ℕ → List ℕ → Meaning → Meaning → Meaning
+abbrev pub named : List ℕ → List ℕ → CommandMeaning → CommandMeaning → CommandMeaning
 named name word this other = named_so (bytes_eq name word) this other
 
 -- the words are accepted
-abbrev pub IsAccepted : Meaning → Type 0
+abbrev pub IsAccepted : CommandMeaning → Type 0
 IsAccepted nothing = ⊥
 IsAccepted (command plan) = ⊤
 
 -- A call does what is meant: it follows the plan, or the words are refused.
-abbrev pub Does : Meaning → Stage → Stage → Result (Unit {0}) Fault → Type 0
+abbrev pub Does : CommandMeaning → Stage → Stage → Result (Unit {0}) Fault → Type 0
 Does nothing a b result = Ends (Err Usage) a b result
 Does (command plan) a b result = Follows plan a b result
 
-abbrev pub MayEndBy : Meaning → (List ℕ → Option (List ℕ)) → List (List ℕ) → Result (Unit {0}) Fault → Type 0
+abbrev pub MayEndBy : CommandMeaning → (List ℕ → Option (List ℕ)) → List (List ℕ) → Result (Unit {0}) Fault → Type 0
 MayEndBy nothing file lines end = EndsAs (Err Usage) lines end
 MayEndBy (command plan) file lines end = MayEnd plan file lines end
 
-abbrev pub MayFetchFor : (List ℕ → Type 0) → Meaning → Type 0
+abbrev pub MayFetchFor : (List ℕ → Type 0) → CommandMeaning → Type 0
 MayFetchFor may nothing = ⊤
 MayFetchFor may (command plan) = MayFetch may plan
 
-abbrev pub ReadsWholeFor : Meaning → Type 0
+abbrev pub ReadsWholeFor : CommandMeaning → Type 0
 ReadsWholeFor nothing = ⊥
 ReadsWholeFor (command plan) = ReadsWhole false plan
 
-abbrev pub IsQuietFor : Meaning → Type 0
+abbrev pub IsQuietFor : CommandMeaning → Type 0
 IsQuietFor nothing = ⊤
 IsQuietFor (command plan) = IsQuiet false plan

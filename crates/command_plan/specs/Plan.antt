@@ -1,7 +1,7 @@
 -- What a command does, as a tree.
 use Rattle.std.specs.Prelude.{◌≡◌, ℕ, ◌≤◌, List, length, Option, IfSome, ⊤, Bool, true, false, IsTrue}
 use Rattle.hex.specs.Hex.{IsBytes}
-use Rattle.command_plan.specs.Files.{limit_of}
+use Rattle.command_plan.specs.Files.{file_limit}
 use Rattle.command_plan.specs.declared.fault.Input.{Input}
 use Rattle.command_plan.specs.declared.fault.Refusal.{Refusal}
 use Rattle.command_plan.specs.declared.fault.Refusal.TheVariants.{BadCapture}
@@ -59,7 +59,7 @@ says_some IsText refusal = picks IsText >>= λ lines. says lines >>= λ _. unles
 
 -- what a file may hold, where its bytes are told: bytes, of which there are as many as its kind allows
 pub record MayHold (input : Input) (told : Option (List ℕ)) (bytes : List ℕ) : Type 0 where
-  pub fits : length bytes ≤ limit_of input.kind
+  pub fits : length bytes ≤ file_limit input.kind
   pub are : IsBytes bytes
   pub same : IfSome told (λ all. bytes ≡ all)
 

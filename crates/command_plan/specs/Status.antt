@@ -11,7 +11,7 @@ use Rattle.pcap_files.specs.declared.fault.PcapError.TheVariants.{Magic, Version
 use Rattle.pcap_files.specs.declared.fault.PcapError.TheVariants as captures
 use Rattle.script_text.specs.declared.script_error.ScriptKind.{ScriptKind}
 use Rattle.script_text.specs.declared.script_error.ScriptKind.TheVariants.{Form, Order, End}
-use Rattle.command_plan.specs.Files.{kind_name, limit_of}
+use Rattle.command_plan.specs.Files.{kind_name, file_limit}
 use Rattle.command_plan.specs.declared.fault.FileKind.TheVariants.{Program}
 use Rattle.command_plan.specs.declared.fault.Refusal.{Refusal}
 use Rattle.command_plan.specs.declared.fault.Refusal.TheVariants.{BadCapture, BadScript, BadText, Twice, Unknown, Backward, TooLong, CodeTooLong, TooLarge}
@@ -42,10 +42,10 @@ status_of (Err (Open input)) = 73
 
 -- ---- the lines
 
-abbrev pub kind_word : TextKind → List ℕ
-kind_word Ascii = codes "ascii"
-kind_word Word = codes "word"
-kind_word Operand = codes "operand"
+abbrev pub text_kind_word : TextKind → List ℕ
+text_kind_word Ascii = codes "ascii"
+text_kind_word Word = codes "word"
+text_kind_word Operand = codes "operand"
 
 abbrev pub script_word : ScriptKind → List ℕ
 script_word Form = codes "form"
@@ -114,12 +114,12 @@ capture_numbers fault = []
 abbrev pub refusal_numbers : Refusal → List ℕ
 refusal_numbers (BadCapture fault) = capture_numbers fault
 refusal_numbers (BadScript line kind) = line_words line (script_word kind)
-refusal_numbers (BadText line kind) = line_words line (kind_word kind)
+refusal_numbers (BadText line kind) = line_words line (text_kind_word kind)
 refusal_numbers (Twice item label) = pair_words item (codes ": label L") label (codes " twice")
 refusal_numbers (Unknown item label) = pair_words item (codes ": unknown label L") label []
 refusal_numbers (Backward item label) = pair_words item (codes ": backward label L") label []
-refusal_numbers (TooLong input) = limit_words (limit_of input.kind)
-refusal_numbers CodeTooLong = limit_words (limit_of Program)
+refusal_numbers (TooLong input) = limit_words (file_limit input.kind)
+refusal_numbers CodeTooLong = limit_words (file_limit Program)
 refusal_numbers (TooLarge need limit) = pair_words need (codes " limit ") limit []
 
 abbrev pub fault_numbers : Fault → List ℕ

@@ -7,7 +7,7 @@ ghost use Rattle.std.specs.Io.KnownBytes.{Appends};
 ghost use Rattle.apf_base.specs.Causes.{Rose, HasCause};
 ghost use Rattle.apf_base.specs.Streams.{AppendsFront};
 ghost use Rattle.command_line.specs.Lines.{texts};
-ghost use Rattle.command_plan.specs.Status.{kind_word, script_word, capture_words, refusal_words, fault_words, fault_name, pair_words, line_words, limit_words, capture_numbers, refusal_numbers, fault_numbers, fault_head, fault_line};
+ghost use Rattle.command_plan.specs.Status.{text_kind_word, script_word, capture_words, refusal_words, fault_words, fault_name, pair_words, line_words, limit_words, capture_numbers, refusal_numbers, fault_numbers, fault_head, fault_line};
 
 use crate::fault::{Fault, FileKind, Refusal};
 use apf_asm::TextKind;
@@ -17,7 +17,7 @@ use pcap_files::PcapError;
 use script_text::ScriptKind;
 
 fn kind_word(kind: TextKind) -> &'static str
-    ensures { result.now ≡ kind_word kind }
+    ensures { result.now ≡ text_kind_word kind }
 {
     match kind {
         TextKind::Ascii => "ascii",

@@ -1,12 +1,12 @@
 //! How a command may end before its end, and the exit statuses.
 
 ghost use Rattle.std.specs.Prelude.{◌≡◌};
-ghost use Rattle.command_plan.specs.Files.{kind_name, limit_of};
+ghost use Rattle.command_plan.specs.Files.{kind_name, file_limit};
 ghost use Rattle.command_plan.specs.Status.{refusal_status, status_of};
 ghost use Rattle.command_plan.specs.declared.fault.Fault.TheVariants.{OutOfMemory as NoMemory, Refused as IsRefused};
 
 use apf_asm::TextKind;
-use apf_base::OutOfMemory;
+use apf_base::{CAPTURE_LIMIT, OutOfMemory, PROGRAM_LIMIT, SCRIPT_LIMIT, TEXT_LIMIT};
 use pcap_files::PcapError;
 use script_text::ScriptKind;
 use std::alloc::AllocError;
@@ -25,12 +25,13 @@ pub enum FileKind {
 impl FileKind {
     /// The most bytes of a file of this kind.
     pub fn limit(self) -> usize
-        ensures { result ≡ limit_of self }
+        ensures { result ≡ file_limit self }
     {
         match self {
-            FileKind::Program => 65535,
-            FileKind::Text | FileKind::Script => 1048576,
-            FileKind::Capture => 67108864,
+            FileKind::Program => PROGRAM_LIMIT,
+            FileKind::Text => TEXT_LIMIT,
+            FileKind::Script => SCRIPT_LIMIT,
+            FileKind::Capture => CAPTURE_LIMIT,
         }
     }
 

@@ -4,7 +4,7 @@ ghost use Rattle.std.specs.Prelude.{◌≡◌, ◌≤◌, ◌<◌, ◌∷◌, []
 ghost use Rattle.std.specs.Io.KnownBytes.{IsAtEnd};
 ghost use Rattle.apf_base.specs.Causes.{Rose};
 ghost use Rattle.hex.specs.Hex.{IsBytes};
-ghost use Rattle.command_plan.specs.Files.{FileFails, limit_of};
+ghost use Rattle.command_plan.specs.Files.{FileFails, file_limit};
 ghost use Rattle.command_plan.specs.Follows.{Reads, Writes, shelving, sinking};
 ghost use Rattle.command_plan.specs.Plan.{asks, says};
 
@@ -28,11 +28,11 @@ fn read_file<H: Shelf>(
 ) -> Result<List<u8>, Fault>
     requires { H.may name.now }
     ensures ok { IfOk result (λ bytes. IfSome (H.file shelf.old name.now) (λ told. bytes ≡ told)) }
-    ensures fits { IfOk result (λ bytes. length bytes ≤ limit_of input.kind) }
+    ensures fits { IfOk result (λ bytes. length bytes ≤ file_limit input.kind) }
     ensures bytes { IfOk result IsBytes }
     ensures whole { OnOk result (IsAtEnd (H.left shelf.new)) }
     ensures err { IfErr result
-        (FileFails input (IfSome (H.file shelf.old name.now) (λ told. limit_of input.kind < length told))) }
+        (FileFails input (IfSome (H.file shelf.old name.now) (λ told. file_limit input.kind < length told))) }
     ensures read { (which : Input) → result ≡ Err (Fault.Read which) → Rose (H.faults shelf.old) (H.faults shelf.new) }
     ensures open { (which : Input) → result ≡ Err (Fault.Open which) → Rose (H.misses shelf.old) (H.misses shelf.new) }
     ensures faults { H.faults shelf.old ≤ H.faults shelf.new }

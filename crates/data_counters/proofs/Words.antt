@@ -7,6 +7,7 @@ use Rattle.std.proofs.lemmas.Bool.{cases_lt}
 use Rattle.std.proofs.lemmas.List.{ext_get_or, get_or_past}
 use Rattle.std.proofs.lemmas.List.Elements.{All-get_or}
 use Rattle.std.proofs.lemmas.Nat.{from_be_bytes-to_be_bytes_4, be_bytes_4}
+use Rattle.apf_base.specs.Limits.{memory_size}
 use Rattle.data_counters.specs.Memory.{word_at, with_word}
 
 -- ---- bytes
@@ -61,17 +62,17 @@ word_at-beside at other w m le apart =
 -- ---- whole memories
 
 -- the bytes of a word in a memory
-bytes_of-word : (m : List ℕ) (k : ℕ) → k < 32 → length m ≡ 128 → ((i : ℕ) → get_or m i 0 < 256) → to_be_bytes w32 (word_at (4 * k) m) ≡ slice_range m (4 * k) (4 * k + 4)
+bytes_of-word : (m : List ℕ) (k : ℕ) → k < memory_size / 4 → length m ≡ memory_size → ((i : ℕ) → get_or m i 0 < 256) → to_be_bytes w32 (word_at (4 * k) m) ≡ slice_range m (4 * k) (4 * k + 4)
 unfolding word_at
 bytes_of-word m k few long bytes =
     let word = slice_range m (4 * k) (4 * k + 4) in
     be_bytes_4 word (from_be_bytes w32 word) (grind (arith, common_steps)) (λ i. grind (arith, common_steps)) refl
 
 -- memories of the same words are equal
-pub same_words : (m n : List ℕ) → length m ≡ 128 → length n ≡ 128 → All (λ b. b < 256) m → All (λ b. b < 256) n → ((k : ℕ) → k < 32 → word_at (4 * k) m ≡ word_at (4 * k) n) → m ≡ n
+pub same_words : (m n : List ℕ) → length m ≡ memory_size → length n ≡ memory_size → All (λ b. b < 256) m → All (λ b. b < 256) n → ((k : ℕ) → k < memory_size / 4 → word_at (4 * k) m ≡ word_at (4 * k) n) → m ≡ n
 same_words m n long as_long bytes other_bytes same = ext_get_or 0 m n (long ∙ sym as_long) (λ i few.
     let k : ℕ = i / 4 in
-    let inside : k < 32 = omega arith in
+    let inside : k < memory_size / 4 = omega arith in
     let place : 4 * k + i % 4 ≡ i = omega arith in
     let words = sym (bytes_of-word m k inside long (each_byte m bytes)) ∙ ap (to_be_bytes w32) (same k inside) ∙ bytes_of-word n k inside as_long (each_byte n other_bytes) in
     ap (λ (j : ℕ). get_or m j 0) (sym place)

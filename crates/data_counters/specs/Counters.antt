@@ -1,5 +1,5 @@
 -- The counters: their numbers and names. This project's own table, after ApfFilter of Android 10.
-use Rattle.std.specs.Prelude.{ℕ, ◌==◌, List, [], ◌∷◌, Option, codes}
+use Rattle.std.specs.Prelude.{ℕ, ◌==◌, List, [], ◌∷◌, length, Option, codes}
 use Rattle.std.specs.List.{find}
 use Rattle.data_counters.specs.declared.counter.Counter.{Counter}
 use Rattle.data_counters.specs.declared.counter.Counter.TheVariants.{TotalPackets, PassedArp, PassedArpNonIpv4, PassedArpUnknown, PassedArpUnicastReply, PassedDhcp, PassedIpv4, PassedIpv4Unicast, PassedIpv6NonIcmp, PassedIpv6UnicastNonIcmp, PassedIpv6Icmp, PassedNonIpUnicast, Dropped8023Frame, DroppedEthertypeDenied, DroppedEthBroadcast, DroppedArpReplySpaNoHost, DroppedGarpReply, DroppedArpOtherHost, DroppedIpv4L2Broadcast, DroppedIpv4BroadcastAddr, DroppedIpv4BroadcastNet, DroppedIpv4Multicast, DroppedIpv4KeepaliveAck, DroppedIpv6RouterSolicitation, DroppedIpv6MulticastNa, DroppedIpv6Multicast, DroppedRa}
@@ -50,6 +50,10 @@ name_of c = (row_of c).name
 -- all of them, by their numbers
 abbrev pub all_counters : List Counter
 all_counters = TotalPackets ∷ PassedArp ∷ PassedArpNonIpv4 ∷ PassedArpUnknown ∷ PassedArpUnicastReply ∷ PassedDhcp ∷ PassedIpv4 ∷ PassedIpv4Unicast ∷ PassedIpv6NonIcmp ∷ PassedIpv6UnicastNonIcmp ∷ PassedIpv6Icmp ∷ PassedNonIpUnicast ∷ Dropped8023Frame ∷ DroppedEthertypeDenied ∷ DroppedEthBroadcast ∷ DroppedArpReplySpaNoHost ∷ DroppedGarpReply ∷ DroppedArpOtherHost ∷ DroppedIpv4L2Broadcast ∷ DroppedIpv4BroadcastAddr ∷ DroppedIpv4BroadcastNet ∷ DroppedIpv4Multicast ∷ DroppedIpv4KeepaliveAck ∷ DroppedIpv6RouterSolicitation ∷ DroppedIpv6MulticastNa ∷ DroppedIpv6Multicast ∷ DroppedRa ∷ []
+
+-- how many there are
+abbrev pub counter_count : ℕ
+counter_count = length all_counters
 
 -- the counter of a number
 abbrev pub counter_of : ℕ → Option Counter

@@ -1,5 +1,9 @@
 //! The counters by their names and numbers.
 
+ghost use Rattle.std.specs.Prelude.{◌≡◌, ◌==◌};
+ghost use Rattle.std.specs.List.{find};
+ghost use Rattle.data_counters.specs.Counters.{number_of};
+
 /// What a filter counts. A frame of more than 14 bytes raises `TotalPackets` once, and at most one other counter,
 /// which says why the frame was passed or dropped.
 #[derive(Clone, Copy, Debug, PartialEq, Eq)]
@@ -60,14 +64,59 @@ pub enum Counter {
     DroppedRa = 27,
 }
 
+/// How many counters there are.
+pub const COUNTER_COUNT: u8 = 27;
+
+/// All counters, in the order of their numbers.
+pub const COUNTERS: [Counter; COUNTER_COUNT as usize] = [
+    Counter::TotalPackets,
+    Counter::PassedArp,
+    Counter::PassedArpNonIpv4,
+    Counter::PassedArpUnknown,
+    Counter::PassedArpUnicastReply,
+    Counter::PassedDhcp,
+    Counter::PassedIpv4,
+    Counter::PassedIpv4Unicast,
+    Counter::PassedIpv6NonIcmp,
+    Counter::PassedIpv6UnicastNonIcmp,
+    Counter::PassedIpv6Icmp,
+    Counter::PassedNonIpUnicast,
+    Counter::Dropped8023Frame,
+    Counter::DroppedEthertypeDenied,
+    Counter::DroppedEthBroadcast,
+    Counter::DroppedArpReplySpaNoHost,
+    Counter::DroppedGarpReply,
+    Counter::DroppedArpOtherHost,
+    Counter::DroppedIpv4L2Broadcast,
+    Counter::DroppedIpv4BroadcastAddr,
+    Counter::DroppedIpv4BroadcastNet,
+    Counter::DroppedIpv4Multicast,
+    Counter::DroppedIpv4KeepaliveAck,
+    Counter::DroppedIpv6RouterSolicitation,
+    Counter::DroppedIpv6MulticastNa,
+    Counter::DroppedIpv6Multicast,
+    Counter::DroppedRa,
+];
+
+/// The first of these counters that has a number.
+fn with_number(counters: &[Counter], n: u8) -> Option<Counter>
+    ensures { result ≡ find (λ c. number_of c == n) counters.now }
+{
+    match counters {
+        [first, _rest @ ..] if first.number() == n => Some(*first),
+        [_first, rest @ ..] => with_number(rest, n),
+        [] => None,
+    }
+}
+
 impl Counter {
     ghost use Rattle.std.specs.Prelude.{◌≡◌, ◌<◌, ◌≤◌, ◌⊎◌, ◌↔◌, IsNone};
-    ghost use Rattle.data_counters.specs.Counters.{number_of, name_of, counter_of};
+    ghost use Rattle.data_counters.specs.Counters.{name_of, counter_of, counter_count};
 
     /// The counter's number, from 1 to 27.
     pub fn number(self) -> u8
         ensures value { result ≡ number_of self }
-        ensures range { (1 ≤ result) × (result ≤ 27) }
+        ensures range { (1 ≤ result) × (result ≤ counter_count) }
     {
         self as u8
     }
@@ -110,37 +159,8 @@ impl Counter {
     /// The counter of a number. There is none exactly for 0 and above 27.
     pub fn from_number(n: u8) -> Option<Counter>
         ensures counter { result ≡ counter_of n }
-        ensures none { IsNone result ↔ ((n ≡ 0) ⊎ (27 < n)) }
+        ensures none { IsNone result ↔ ((n ≡ 0) ⊎ (counter_count < n)) }
     {
-        match n {
-            1 => Some(Counter::TotalPackets),
-            2 => Some(Counter::PassedArp),
-            3 => Some(Counter::PassedArpNonIpv4),
-            4 => Some(Counter::PassedArpUnknown),
-            5 => Some(Counter::PassedArpUnicastReply),
-            6 => Some(Counter::PassedDhcp),
-            7 => Some(Counter::PassedIpv4),
-            8 => Some(Counter::PassedIpv4Unicast),
-            9 => Some(Counter::PassedIpv6NonIcmp),
-            10 => Some(Counter::PassedIpv6UnicastNonIcmp),
-            11 => Some(Counter::PassedIpv6Icmp),
-            12 => Some(Counter::PassedNonIpUnicast),
-            13 => Some(Counter::Dropped8023Frame),
-            14 => Some(Counter::DroppedEthertypeDenied),
-            15 => Some(Counter::DroppedEthBroadcast),
-            16 => Some(Counter::DroppedArpReplySpaNoHost),
-            17 => Some(Counter::DroppedGarpReply),
-            18 => Some(Counter::DroppedArpOtherHost),
-            19 => Some(Counter::DroppedIpv4L2Broadcast),
-            20 => Some(Counter::DroppedIpv4BroadcastAddr),
-            21 => Some(Counter::DroppedIpv4BroadcastNet),
-            22 => Some(Counter::DroppedIpv4Multicast),
-            23 => Some(Counter::DroppedIpv4KeepaliveAck),
-            24 => Some(Counter::DroppedIpv6RouterSolicitation),
-            25 => Some(Counter::DroppedIpv6MulticastNa),
-            26 => Some(Counter::DroppedIpv6Multicast),
-            27 => Some(Counter::DroppedRa),
-            _ => None,
-        }
+        with_number(&COUNTERS, n)
     }
 }

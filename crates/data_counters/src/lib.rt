@@ -11,7 +11,7 @@ mod sharing;
 #[cfg(test)]
 mod tests;
 
-pub use counter::Counter;
+pub use counter::{COUNTER_COUNT, COUNTERS, Counter};
 pub use laws::{counters_are_numbered, raising_changes_one_word, sums_add_each_counter};
 pub use memory::{add_all, get, raise};
 pub use sharing::types_are_shared;

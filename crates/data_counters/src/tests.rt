@@ -1,7 +1,8 @@
 use crate::*;
+use apf_base::MEMORY_SIZE;
 
 /// 128 bytes of ff.
-const FULL: [u8; 128] = [0xff; 128];
+const FULL: [u8; MEMORY_SIZE] = [0xff; MEMORY_SIZE];
 
 #[test]
 fn counters_stand_in_their_words(rt: HostRuntime) {

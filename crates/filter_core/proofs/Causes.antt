@@ -9,7 +9,7 @@ use Rattle.policy_state.specs.declared.update.StateError.{StateError}
 use Rattle.policy_state.specs.declared.update.Update.{Update}
 use Rattle.policy_state.specs.declared.update.Update.TheVariants.{Multicast, Doze, KeepaliveAdd, KeepaliveRemove}
 use Rattle.policy_state.specs.declared.update.Update.TheVariants as changes
-use Rattle.policy_state.specs.Effects.{after, is_same, answer_to, answer_of}
+use Rattle.policy_state.specs.Effects.{after, is_same, answer_to, apply_answer}
 use Rattle.ra_records.specs.Advert.{Advert, advert, least}
 use Rattle.ra_records.specs.declared.replies.RaReply.{RaReply}
 use Rattle.ra_records.specs.declared.replies.RaReply.TheVariants as adverts
@@ -50,7 +50,7 @@ other_reply f state = reply_of (nat_lt (limit_of (config_of f)) (base (config_of
 
 -- ---- by what the update does
 
-same_reply : (f : Filter) (same : Bool) (r : Result FilterState StateError) → ((by_state f same r).1 ≡ updates.Same) ↔ (answer_of same r ≡ Ok No)
+same_reply : (f : Filter) (same : Bool) (r : Result FilterState StateError) → ((by_state f same r).1 ≡ updates.Same) ↔ (apply_answer same r ≡ Ok No)
 same_reply f same (Err refusal) = (λ e. absurd cc, λ e. absurd cc)
 same_reply f true (Ok state) = (λ e. refl, λ e. refl)
 same_reply f false (Ok state) = (λ e. absurd (not_same _ _ _ (sym (other_reply f state) ∙ e)), λ e. absurd cc)
@@ -70,7 +70,7 @@ pub refused_exactly : (f : Filter) (u : Update) (now : ℕ) (refusal : StateErro
 refused_exactly f u now refusal = refused_reply (moved f now) (is_same (state_of f) u) (after (state_of f) u) refusal
 
 -- the reply to a new state
-new_state : (f : Filter) (same : Bool) (r : Result FilterState StateError) (state : FilterState) → r ≡ Ok state → (answer_of same r ≡ Ok No → ⊥) →
+new_state : (f : Filter) (same : Bool) (r : Result FilterState StateError) (state : FilterState) → r ≡ Ok state → (apply_answer same r ≡ Ok No → ⊥) →
     (by_state f same r).1 ≡ (with_state f state).1
 new_state f same (Err refusal) state e ne = absurd cc
 new_state f true (Ok other) state e ne = absurd (ne refl)

@@ -1,5 +1,5 @@
 -- The memory of counts, and what one more answer does to it.
-use Rattle.std.proofs.Common.{◌≡◌, ℕ, zero, suc, ◌+◌, ◌-◌, ◌*◌, ◌%◌, ◌^◌, ◌<◌, ◌≤◌, ◌==◌, Bool, true, false, cond, List, [], ◌∷◌, ◌++◌, length, map, reverse, take, drop, set, get_or, replicate, flat_map, slice_range, refl, sym, ap, ◌∙◌, arith, append_assoc}
+use Rattle.std.proofs.Common.{◌≡◌, ℕ, zero, suc, ◌+◌, ◌-◌, ◌*◌, ◌/◌, ◌%◌, ◌^◌, ◌<◌, ◌≤◌, ◌==◌, Bool, true, false, cond, List, [], ◌∷◌, ◌++◌, length, map, reverse, take, drop, set, get_or, replicate, flat_map, slice_range, refl, sym, ap, ◌∙◌, arith, append_assoc}
 use Rattle.std.proofs.Math.Seq.{take-append-add, drop-append-add, drop-cons}
 use Rattle.std.proofs.lemmas.Grind.{flat_map-append}
 use Rattle.std.proofs.lemmas.List.{append-nil, set_split}
@@ -7,15 +7,16 @@ use Rattle.std.proofs.lemmas.List.Concat.{flat_map-cons}
 use Rattle.std.proofs.lemmas.List.Sums.{sum_by-append}
 use Rattle.std.proofs.lemmas.Nat.{from_be_bytes-to_be_bytes_4}
 use Rattle.std.specs.Int.{w32, from_be_bytes, to_be_bytes}
-use Rattle.data_counters.specs.Counters.{number_of, all_counters}
+use Rattle.data_counters.specs.Counters.{number_of, all_counters, counter_count}
+use Rattle.apf_base.specs.Limits.{memory_size}
 use Rattle.data_counters.specs.Memory.{word_at, with_word, place_of, value_of, raised}
 use Rattle.data_counters.specs.declared.counter.Counter.{Counter}
-use Rattle.data_counters.specs.declared.counter.Counter.TheVariants.{TotalPackets, PassedArp, PassedArpNonIpv4, PassedArpUnknown, PassedArpUnicastReply, PassedDhcp, PassedIpv4, PassedIpv4Unicast, PassedIpv6NonIcmp, PassedIpv6UnicastNonIcmp, PassedIpv6Icmp, PassedNonIpUnicast, Dropped8023Frame, DroppedEthertypeDenied, DroppedEthBroadcast, DroppedArpReplySpaNoHost, DroppedGarpReply, DroppedArpOtherHost, DroppedIpv4L2Broadcast, DroppedIpv4BroadcastAddr, DroppedIpv4BroadcastNet, DroppedIpv4Multicast, DroppedIpv4KeepaliveAck, DroppedIpv6RouterSolicitation, DroppedIpv6MulticastNa, DroppedIpv6Multicast, DroppedRa}
+use Rattle.data_counters.specs.declared.counter.Counter.TheVariants.{TotalPackets}
 use Rattle.data_counters.proofs.Apart.{IsCounterNumber, number_of-range}
 use Rattle.apf_generate.specs.Means.{memory_after}
 use Rattle.policy_state.specs.Whole.{Fate, Short, Missing, Says}
 use Rattle.filter_core.specs.Steps.{Answered}
-use Rattle.filter_core.specs.Tally.{raises, raised_by, count, words_of, memory_of}
+use Rattle.filter_core.specs.Tally.{raises, raised_by, times_raised, words_of, memory_of}
 
 -- ---- words as bytes
 
@@ -72,10 +73,10 @@ counted_one : (t : Bool) (n : ℕ) → n + (0 + cond t 1 0) ≡ one_more t n
 counted_one true n = omega arith
 counted_one false n = omega arith
 
-count-more : (counters : List Counter) (c d : Counter) → count (counters ++ c ∷ []) d ≡ one_more (number_of c == number_of d) (count counters d)
+count-more : (counters : List Counter) (c d : Counter) → times_raised (counters ++ c ∷ []) d ≡ one_more (number_of c == number_of d) (times_raised counters d)
 count-more counters c d =
     sum_by-append (λ (e : Counter). cond (number_of e == number_of d) 1 0) counters (c ∷ [])
-    ∙ counted_one (number_of c == number_of d) (count counters d)
+    ∙ counted_one (number_of c == number_of d) (times_raised counters d)
 
 map_same : (f g : Counter → ℕ) → ((c : Counter) → f c ≡ g c) → (cs : List Counter) → map f cs ≡ map g cs
 map_same f g same [] = refl
@@ -83,109 +84,69 @@ map_same f g same (c ∷ cs) = let first = same c in let later = map_same f g sa
 
 -- the words after one more counter was raised
 abbrev words_more : List Counter → Counter → List ℕ
-words_more counters c = replicate 5 0 ++ map (λ d. one_more (number_of c == number_of d) (count counters d) % 2 ^ 32) (reverse all_counters)
+words_more counters c = replicate (memory_size / 4 - counter_count) 0 ++ map (λ d. one_more (number_of c == number_of d) (times_raised counters d) % 2 ^ 32) (reverse all_counters)
 
 words_of-more : (counters : List Counter) (c : Counter) → words_of (counters ++ c ∷ []) ≡ words_more counters c
 words_of-more counters c =
-    ap (λ (words : List ℕ). replicate 5 0 ++ words)
-    (map_same (λ d. count (counters ++ c ∷ []) d % 2 ^ 32) (λ d. one_more (number_of c == number_of d) (count counters d) % 2 ^ 32)
+    ap (λ (words : List ℕ). replicate (memory_size / 4 - counter_count) 0 ++ words)
+    (map_same (λ d. times_raised (counters ++ c ∷ []) d % 2 ^ 32) (λ d. one_more (number_of c == number_of d) (times_raised counters d) % 2 ^ 32)
     (λ d. ap (λ (n : ℕ). n % 2 ^ 32) (count-more counters c d)) (reverse all_counters))
 
-word_of : (counters : List Counter) (c : Counter) → get_or (words_of counters) (32 - number_of c) 0 ≡ count counters c % 2 ^ 32
-word_of counters TotalPackets = refl
-word_of counters PassedArp = refl
-word_of counters PassedArpNonIpv4 = refl
-word_of counters PassedArpUnknown = refl
-word_of counters PassedArpUnicastReply = refl
-word_of counters PassedDhcp = refl
-word_of counters PassedIpv4 = refl
-word_of counters PassedIpv4Unicast = refl
-word_of counters PassedIpv6NonIcmp = refl
-word_of counters PassedIpv6UnicastNonIcmp = refl
-word_of counters PassedIpv6Icmp = refl
-word_of counters PassedNonIpUnicast = refl
-word_of counters Dropped8023Frame = refl
-word_of counters DroppedEthertypeDenied = refl
-word_of counters DroppedEthBroadcast = refl
-word_of counters DroppedArpReplySpaNoHost = refl
-word_of counters DroppedGarpReply = refl
-word_of counters DroppedArpOtherHost = refl
-word_of counters DroppedIpv4L2Broadcast = refl
-word_of counters DroppedIpv4BroadcastAddr = refl
-word_of counters DroppedIpv4BroadcastNet = refl
-word_of counters DroppedIpv4Multicast = refl
-word_of counters DroppedIpv4KeepaliveAck = refl
-word_of counters DroppedIpv6RouterSolicitation = refl
-word_of counters DroppedIpv6MulticastNa = refl
-word_of counters DroppedIpv6Multicast = refl
-word_of counters DroppedRa = refl
+word_of : (counters : List Counter) (c : Counter) → get_or (words_of counters) (memory_size / 4 - number_of c) 0 ≡ times_raised counters c % 2 ^ 32
+word_of counters c = grind arith
 
-set_count : (counters : List Counter) (c : Counter) → set (words_of counters) (32 - number_of c) ((count counters c + 1) % 2 ^ 32) ≡ words_more counters c
-set_count counters TotalPackets = refl
-set_count counters PassedArp = refl
-set_count counters PassedArpNonIpv4 = refl
-set_count counters PassedArpUnknown = refl
-set_count counters PassedArpUnicastReply = refl
-set_count counters PassedDhcp = refl
-set_count counters PassedIpv4 = refl
-set_count counters PassedIpv4Unicast = refl
-set_count counters PassedIpv6NonIcmp = refl
-set_count counters PassedIpv6UnicastNonIcmp = refl
-set_count counters PassedIpv6Icmp = refl
-set_count counters PassedNonIpUnicast = refl
-set_count counters Dropped8023Frame = refl
-set_count counters DroppedEthertypeDenied = refl
-set_count counters DroppedEthBroadcast = refl
-set_count counters DroppedArpReplySpaNoHost = refl
-set_count counters DroppedGarpReply = refl
-set_count counters DroppedArpOtherHost = refl
-set_count counters DroppedIpv4L2Broadcast = refl
-set_count counters DroppedIpv4BroadcastAddr = refl
-set_count counters DroppedIpv4BroadcastNet = refl
-set_count counters DroppedIpv4Multicast = refl
-set_count counters DroppedIpv4KeepaliveAck = refl
-set_count counters DroppedIpv6RouterSolicitation = refl
-set_count counters DroppedIpv6MulticastNa = refl
-set_count counters DroppedIpv6Multicast = refl
-set_count counters DroppedRa = refl
+-- the word of one counter, and those of all others
+set_one : (f g : Counter → ℕ) (c : Counter) → set (replicate (memory_size / 4 - counter_count) 0 ++ map f (reverse all_counters)) (memory_size / 4 - number_of c) (g c)
+    ≡ replicate (memory_size / 4 - counter_count) 0 ++ map (λ d. cond (number_of c == number_of d) (g d) (f d)) (reverse all_counters)
+set_one f g c = grind arith
 
-place-words : (c : Counter) → place_of c ≡ 4 * (32 - number_of c)
+one_more-cond : (t : Bool) (n : ℕ) → cond t ((n + 1) % 2 ^ 32) (n % 2 ^ 32) ≡ one_more t n % 2 ^ 32
+one_more-cond true n = refl
+one_more-cond false n = refl
+
+set_count : (counters : List Counter) (c : Counter) → set (words_of counters) (memory_size / 4 - number_of c) ((times_raised counters c + 1) % 2 ^ 32) ≡ words_more counters c
+set_count counters c =
+    set_one (λ d. times_raised counters d % 2 ^ 32) (λ d. (times_raised counters d + 1) % 2 ^ 32) c
+    ∙ ap (λ (words : List ℕ). replicate (memory_size / 4 - counter_count) 0 ++ words)
+    (map_same _ _ (λ d. one_more-cond (number_of c == number_of d) (times_raised counters d)) (reverse all_counters))
+
+place-words : (c : Counter) → place_of c ≡ 4 * (memory_size / 4 - number_of c)
 place-words c = let range : IsCounterNumber (number_of c) = number_of-range c in omega arith
 
-inside : (counters : List Counter) (c : Counter) → 32 - number_of c < length (words_of counters)
-inside counters c = let range : IsCounterNumber (number_of c) = number_of-range c in let n : length (words_of counters) ≡ 32 = refl in omega arith
+inside : (counters : List Counter) (c : Counter) → memory_size / 4 - number_of c < length (words_of counters)
+inside counters c = let range : IsCounterNumber (number_of c) = number_of-range c in let n : length (words_of counters) ≡ memory_size / 4 = refl in omega arith
 
 -- each counter holds its count
-pub value_of-counts : (counters : List Counter) (c : Counter) → value_of c (memory_of counters) ≡ count counters c % 2 ^ 32
+pub value_of-counts : (counters : List Counter) (c : Counter) → value_of c (memory_of counters) ≡ times_raised counters c % 2 ^ 32
 unfolding memory_of
 value_of-counts counters c =
-    let small : get_or (words_of counters) (32 - number_of c) 0 < 2 ^ 32 = rw (word_of counters c) (omega arith) in
-    rw (place-words c) (word_in (words_of counters) (32 - number_of c) (inside counters c) small ∙ word_of counters c)
+    let small : get_or (words_of counters) (memory_size / 4 - number_of c) 0 < 2 ^ 32 = rw (word_of counters c) (omega arith) in
+    rw (place-words c) (word_in (words_of counters) (memory_size / 4 - number_of c) (inside counters c) small ∙ word_of counters c)
 
 -- the memory of no counts is zeros
-pub memory_of-none : memory_of [] ≡ replicate 128 0
+pub memory_of-none : memory_of [] ≡ replicate memory_size 0
 unfolding memory_of
 memory_of-none = refl
 
-pub length-memory_of : (counters : List Counter) → length (memory_of counters) ≡ 128
+pub length-memory_of : (counters : List Counter) → length (memory_of counters) ≡ memory_size
 unfolding memory_of
 length-memory_of counters = refl
 
 one_more-mod : (n : ℕ) → (n % 2 ^ 32 + 1) % 2 ^ 32 ≡ (n + 1) % 2 ^ 32
 one_more-mod n = omega arith
 
-written : (counters : List Counter) (c : Counter) → with_word (place_of c) ((count counters c + 1) % 2 ^ 32) (memory_of counters) ≡ memory_of (counters ++ c ∷ [])
+written : (counters : List Counter) (c : Counter) → with_word (place_of c) ((times_raised counters c + 1) % 2 ^ 32) (memory_of counters) ≡ memory_of (counters ++ c ∷ [])
 unfolding memory_of
 written counters c =
-    ap (λ (at : ℕ). with_word at ((count counters c + 1) % 2 ^ 32) (memory_of counters)) (place-words c)
-    ∙ set_word (words_of counters) (32 - number_of c) ((count counters c + 1) % 2 ^ 32) (inside counters c)
+    ap (λ (at : ℕ). with_word at ((times_raised counters c + 1) % 2 ^ 32) (memory_of counters)) (place-words c)
+    ∙ set_word (words_of counters) (memory_size / 4 - number_of c) ((times_raised counters c + 1) % 2 ^ 32) (inside counters c)
     ∙ ap (λ (words : List ℕ). bytes_of words) (set_count counters c ∙ sym (words_of-more counters c))
 
 -- raising a counter counts it once more
 pub raised-counts : (counters : List Counter) (c : Counter) → raised c (memory_of counters) ≡ memory_of (counters ++ c ∷ [])
 raised-counts counters c =
     ap (λ (n : ℕ). with_word (place_of c) ((n + 1) % 2 ^ 32) (memory_of counters)) (value_of-counts counters c)
-    ∙ ap (λ (n : ℕ). with_word (place_of c) n (memory_of counters)) (one_more-mod (count counters c))
+    ∙ ap (λ (n : ℕ). with_word (place_of c) n (memory_of counters)) (one_more-mod (times_raised counters c))
     ∙ written counters c
 
 -- ---- answers

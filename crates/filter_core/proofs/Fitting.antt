@@ -6,7 +6,7 @@ use Rattle.std.specs.List.{sum_by}
 use Rattle.std.proofs.lemmas.List.Sums.{sum_by-cons}
 use Rattle.policy_state.specs.declared.basis.Chosen.{Chosen}
 use Rattle.ra_records.specs.declared.replies.Held.{Held}
-use Rattle.size_fit.specs.Choosing.{need_of, IsLongestThatFits}
+use Rattle.size_fit.specs.Choosing.{need_with, IsLongestThatFits}
 use Rattle.size_fit.specs.Sizes.{weight}
 use Rattle.policy_state.specs.declared.config.Config.{Config}
 use Rattle.policy_state.specs.declared.state.FilterState.{FilterState}
@@ -44,7 +44,7 @@ pub fits_longest : (base limit : ℕ) (records : List Held) (n : ℕ) → base �
 fits_longest base limit [] n le h = omega (arith, h.within)
 fits_longest base limit (held ∷ later) zero le h =
     let few : 1 ≤ length (held ∷ later) = omega arith in
-    let none : limit < need_of base (held ∷ []) = h.longest 1 (lit< tt) few in
+    let none : limit < need_with base (held ∷ []) = h.longest 1 (lit< tt) few in
     let large : limit - base < weight held.advert = omega (arith, none, weights-cons held []) in
     sym (fitting-cons false (limit - base) held later (lt-leb _ _ large))
 fits_longest base limit (held ∷ later) (suc n) le h =
@@ -67,10 +67,10 @@ more_front base limit held later n le h = record {
   longest = longest;
 }
   where
-    fits : (m : ℕ) → m ≡ suc n → need_of base (take m (held ∷ later)) ≤ limit
+    fits : (m : ℕ) → m ≡ suc n → need_with base (take m (held ∷ later)) ≤ limit
     fits m e = rw e (omega (arith, h.fits, weights-cons held (take n later)))
 
-    longest : (more : ℕ) → 1 + n < more → more ≤ length (held ∷ later) → limit < need_of base (take more (held ∷ later))
+    longest : (more : ℕ) → 1 + n < more → more ≤ length (held ∷ later) → limit < need_with base (take more (held ∷ later))
     longest zero lt le = absurd (omega arith)
     longest (suc more) lt le = omega (arith, h.longest more (omega arith) (omega arith), weights-cons held (take more later))
 
@@ -78,7 +78,7 @@ no_front : (base limit : ℕ) (held : Held) (later : List Held) → base ≤ lim
     IsLongestThatFits base limit (held ∷ later) 0
 no_front base limit held later le large = record { within = omega arith; fits = omega arith; longest = longest }
   where
-    longest : (more : ℕ) → 0 < more → more ≤ length (held ∷ later) → limit < need_of base (take more (held ∷ later))
+    longest : (more : ℕ) → 0 < more → more ≤ length (held ∷ later) → limit < need_with base (take more (held ∷ later))
     longest zero lt le = absurd (omega arith)
     longest (suc more) lt le = omega (arith, weights-cons held (take more later))
 

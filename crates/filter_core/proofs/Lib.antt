@@ -1,10 +1,12 @@
 pub mod Answering
 pub mod Causes
 pub mod Counting
+pub mod DueEvents
 pub mod Fitting
 pub mod Growing
 pub mod LeastHold
 pub mod Numbering
 pub mod SoundBases
 pub mod Standing
+pub mod TakenFrames
 pub mod Totals

@@ -20,7 +20,7 @@ use Rattle.filter_core.specs.Calls.{update_installs, advert_installs}
 use Rattle.filter_core.specs.Installs.{install_of, end_of}
 use Rattle.filter_core.specs.Records.{standing, match_of, ids_of, to_front, with_last, is_full}
 use Rattle.filter_core.specs.Replay.{Arrival, Entry, install, reply, answer, learnt, counted, total, Course, tells, after_event, is_due, after_due, after_learning, after_frame, after_arrival, is_learnt, answers_of, installs_of, counted_in, totals, AreByLast, begun, course, replay}
-use Rattle.filter_core.specs.Tally.{count, raised_by}
+use Rattle.filter_core.specs.Tally.{times_raised, raised_by}
 use Rattle.filter_core.specs.Steps.{Filter, Answered, moved, config_of, reinstalled, by_state, updated, is_ending, by_match, by_reading, advertised, answer_of}
 
 -- ---- steps
@@ -196,7 +196,7 @@ counts_by_last : (n : ℕ) (answers : List Answered) (cs : List Counter) (frames
     AreByLast n (flat_map (counted_in answers) cs ++ total frames passed all ∷ [])
 counts_by_last n answers [] frames passed all = tt
 counts_by_last n answers (c ∷ cs) frames passed all =
-    let k = count (raised_by answers) c in
+    let k = times_raised (raised_by answers) c in
     counted_by_last (k == 0) n c k (flat_map (counted_in answers) cs) (total frames passed all ∷ []) (counts_by_last n answers cs frames passed all)
 
 pub replay_by_last : (script : Script) (arrivals : List Arrival) → AreByLast 0 (replay script arrivals)

@@ -6,7 +6,7 @@ use Rattle.std.proofs.Math.Seq.{drop-append_seam}
 use Rattle.std.proofs.lemmas.Bool.{agree_below_at, leb-true}
 use Rattle.std.proofs.lemmas.List.Concat.{flat_map-cons}
 use Rattle.std.proofs.lemmas.List.Sums.{sum_by-append, sum_by-cons}
-use Rattle.data_counters.specs.Counters.{number_of, all_counters}
+use Rattle.data_counters.specs.Counters.{number_of, all_counters, counter_count}
 use Rattle.data_counters.specs.declared.counter.Counter.{Counter}
 use Rattle.data_counters.specs.declared.counter.Counter.TheVariants.{TotalPackets}
 use Rattle.data_counters.proofs.Apart.{IsCounterNumber, number_of-range}
@@ -15,7 +15,7 @@ use Rattle.policy_state.specs.declared.basis.Timed.{Timed}
 use Rattle.policy_state.specs.Whole.{Fate, Short, Missing, Says}
 use Rattle.filter_core.specs.Replay.{Arrival, Entry, Course, after_event, course, ending, finished, replay, story, totals, update_entries}
 use Rattle.filter_core.specs.Steps.{Answered, updated}
-use Rattle.filter_core.specs.Tally.{count, raised_by, raises}
+use Rattle.filter_core.specs.Tally.{times_raised, raised_by, raises}
 
 -- ---- the story and the ending
 
@@ -59,25 +59,25 @@ Others = drop 1 all_counters
 abbrev of_number : ℕ → ℕ
 of_number n = sum_by (λ d. count_by (λ m. m == number_of d) (1 ∷ n ∷ [])) Others
 
-one_number : (n : ℕ) → n < 28 → of_number n ≤ 1
-one_number n lt = leb-true (of_number n) 1 (agree_below_at (λ m. nat_le (of_number m) 1) (λ _. true) 28 n refl lt)
+one_number : (n : ℕ) → n ≤ counter_count → of_number n ≤ 1
+one_number n lt = leb-true (of_number n) 1 (agree_below_at (λ m. nat_le (of_number m) 1) (λ _. true) (counter_count + 1) n refl (omega arith))
 
-one_counter : (c : Counter) → sum_by (count (TotalPackets ∷ c ∷ [])) Others ≤ 1
+one_counter : (c : Counter) → sum_by (times_raised (TotalPackets ∷ c ∷ [])) Others ≤ 1
 one_counter c = let range : IsCounterNumber (number_of c) = number_of-range c in one_number (number_of c) (omega (arith, range.most))
 
-one_fate : (fate : Fate) → sum_by (count (raises fate)) Others ≤ 1
+one_fate : (fate : Fate) → sum_by (times_raised (raises fate)) Others ≤ 1
 one_fate Short = lit≤ tt
 one_fate Missing = lit≤ tt
 one_fate (Says verdict counter) = one_counter counter
 
-added : (xs ys : List Counter) (ds : List Counter) → sum_by (count (xs ++ ys)) ds ≡ sum_by (count xs) ds + sum_by (count ys) ds
+added : (xs ys : List Counter) (ds : List Counter) → sum_by (times_raised (xs ++ ys)) ds ≡ sum_by (times_raised xs) ds + sum_by (times_raised ys) ds
 added xs ys [] = refl
 added xs ys (d ∷ ds) =
-    omega (arith, sum_by-cons (count (xs ++ ys)) d ds, sum_by-cons (count xs) d ds, sum_by-cons (count ys) d ds, sum_by-append (λ e. cond (number_of e == number_of d) 1 0) xs ys, added xs ys ds)
+    omega (arith, sum_by-cons (times_raised (xs ++ ys)) d ds, sum_by-cons (times_raised xs) d ds, sum_by-cons (times_raised ys) d ds, sum_by-append (λ e. cond (number_of e == number_of d) 1 0) xs ys, added xs ys ds)
 
-pub others_few : (answers : List Answered) → sum_by (count (raised_by answers)) Others ≤ length answers
+pub others_few : (answers : List Answered) → sum_by (times_raised (raised_by answers)) Others ≤ length answers
 others_few [] = lit≤ tt
 others_few (a ∷ answers) =
-    let more : sum_by (count (raised_by (a ∷ answers))) Others ≡ sum_by (count (raises a.fate)) Others + sum_by (count (raised_by answers)) Others =
-    ap (λ (xs : List Counter). sum_by (count xs) Others) (flat_map-cons (λ (answer : Answered). raises answer.fate) a answers) ∙ added (raises a.fate) (raised_by answers) Others in
+    let more : sum_by (times_raised (raised_by (a ∷ answers))) Others ≡ sum_by (times_raised (raises a.fate)) Others + sum_by (times_raised (raised_by answers)) Others =
+    ap (λ (xs : List Counter). sum_by (times_raised xs) Others) (flat_map-cons (λ (answer : Answered). raises answer.fate) a answers) ∙ added (raises a.fate) (raised_by answers) Others in
     omega (arith, more, one_fate a.fate, others_few answers)

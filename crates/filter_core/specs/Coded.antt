@@ -3,7 +3,7 @@ use Rattle.std.specs.Prelude.{◌≡◌, ℕ, ◌-◌, List}
 use Rattle.apf_coding.specs.Run.{run}
 use Rattle.apf_generate.specs.Means.{memory_after}
 use Rattle.policy_state.specs.declared.basis.Answer.{Answer}
-use Rattle.policy_state.specs.Whole.{verdict_of, counter_of}
+use Rattle.policy_state.specs.Whole.{verdict_of, counter_of_fate}
 use Rattle.filter_core.specs.declared.install.Install.{Install}
 use Rattle.filter_core.specs.Installs.{Installed}
 use Rattle.filter_core.specs.Steps.{answer_of}
@@ -20,5 +20,5 @@ pub record IsAnswer (i : Install) (frame : List ℕ) (now : ℕ) (before : List 
   pub steps : result.steps ≡ (run i.code before frame (now - i.at)).outcome.steps
   pub ran : after ≡ (run i.code before frame (now - i.at)).memory
   pub decided : result.verdict ≡ verdict_of (answer_of (plain i) frame now).fate
-  pub counter : result.counter ≡ counter_of (answer_of (plain i) frame now).fate
+  pub counter : result.counter ≡ counter_of_fate (answer_of (plain i) frame now).fate
   pub raised : after ≡ memory_after (answer_of (plain i) frame now).fate before

@@ -5,4 +5,5 @@ pub mod Records
 pub mod Replay
 pub mod Standing
 pub mod Steps
+pub mod Taking
 pub mod Tally

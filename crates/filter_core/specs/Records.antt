@@ -3,6 +3,7 @@
 use Rattle.std.specs.Prelude.{ℕ, nat_lt, nat_le, Bool, List, [], ◌∷◌, ◌++◌, length, map, filter, position, remove, slice_index, Option}
 use Rattle.ra_records.specs.Advert.{Advert, same, remaining}
 use Rattle.ra_records.specs.declared.replies.Held.{Held}
+use Rattle.policy_state.specs.Limits.{records_most}
 
 -- a record isn't expired
 abbrev pub is_standing : ℕ → Held → Bool
@@ -28,6 +29,6 @@ to_front place seen records = record { id = slice_index (ids_of records) place; 
 abbrev pub with_last : List Held → Held → List Held
 with_last records held = records ++ held ∷ []
 
--- ten records are held at most
+-- so many records are held at most
 abbrev pub is_full : List Held → Bool
-is_full records = nat_le 10 (length records)
+is_full records = nat_le records_most (length records)

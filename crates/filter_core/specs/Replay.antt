@@ -14,7 +14,7 @@ use Rattle.ra_records.specs.declared.replies.RaReply.{RaReply}
 use Rattle.filter_core.specs.Calls.{update_installs, advert_installs}
 use Rattle.filter_core.specs.Installs.{Installed}
 use Rattle.filter_core.specs.Steps.{Filter, Answered, first, moved, updated, advertised, answer_of}
-use Rattle.filter_core.specs.Tally.{count, raised_by}
+use Rattle.filter_core.specs.Tally.{times_raised, raised_by}
 
 -- a frame and the second of its time
 pub record Arrival : Type 0 where
@@ -116,7 +116,7 @@ installs_of (total frames passed programs ∷ entries) = installs_of entries
 
 -- a counter that answers raised
 abbrev pub counted_in : List Answered → Counter → List Entry
-counted_in answers c = let n = count (raised_by answers) c in if n == 0 then [] else counted c n ∷ []
+counted_in answers c = let n = times_raised (raised_by answers) c in if n == 0 then [] else counted c n ∷ []
 
 -- how many answers pass
 abbrev pub passed : List Answered → ℕ

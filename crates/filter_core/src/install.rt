@@ -5,8 +5,9 @@ ghost use Rattle.apf_generate.specs.Means.{Means};
 ghost use Rattle.apf_coding.specs.Words.{AreBytes};
 ghost use Rattle.apf_generate.specs.Sizes.{need_of};
 ghost use Rattle.size_fit.specs.Sizes.{limit_of};
+ghost use Rattle.apf_base.specs.Limits.{frame_limit};
 
-use apf_base::{List, OutOfMemory};
+use apf_base::{List, MEMORY_SIZE, OutOfMemory};
 use apf_interp::interpret;
 use policy_state::{Answer, Basis, decide};
 use std::alloc::Global;
@@ -40,8 +41,8 @@ impl Install {
     ///
     /// The age is `now` less the install's second, or 0 where `now` is less. Verdict and counter are the policy's, and the
     /// counters are raised as the policy says.
-    pub fn answer(&self, frame: &[u8], now: u32, memory: &mut [u8; 128]) -> Answer
-        requires { length frame.now ≤ 262144 }
+    pub fn answer(&self, frame: &[u8], now: u32, memory: &mut [u8; MEMORY_SIZE]) -> Answer
+        requires { length frame.now ≤ frame_limit }
         ensures { IsAnswer self.now frame.now now memory.old result memory.new }
     {
         let age = now.saturating_sub(self.at);

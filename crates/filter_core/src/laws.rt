@@ -29,8 +29,9 @@ ghost use Rattle.filter_core.specs.Installs.{kept, install_of};
 ghost use Rattle.filter_core.specs.Records.{ids_of};
 ghost use Rattle.filter_core.specs.Replay.{Arrival, replay, story, ending, passed, passes, answers_of, installs_of, AreByLast};
 ghost use Rattle.filter_core.specs.Steps.{Filter, Answered, state_of, config_of, updated, advertised};
-ghost use Rattle.filter_core.specs.Tally.{raised_by, count, memory_of};
+ghost use Rattle.filter_core.specs.Tally.{raised_by, times_raised, memory_of};
 ghost use Rattle.filter_core.specs.declared.install.Install.{Install};
+ghost use Rattle.apf_base.specs.Limits.{memory_size};
 
 /// Each install's program means what it was made from, has room, and is of bytes.
 pub fn programs_mean_their_basis()
@@ -52,10 +53,10 @@ pub fn longest_prefix_is_chosen()
 /// The memory of the counts of answers: it begins with zeros, each answer changes it as a run does, and each counter holds
 /// how often it was raised, modulo 2^32.
 pub fn counters_count_answers()
-    ensures none { memory_of (raised_by []) ≡ replicate 128 0 }
+    ensures none { memory_of (raised_by []) ≡ replicate memory_size 0 }
     ensures more { (answers : List Answered) (a : Answered) → memory_of (raised_by (answers ++ a ∷ [])) ≡ memory_after a.fate (memory_of (raised_by answers)) }
-    ensures value { (counters : List Counter) (c : Counter) → value_of c (memory_of counters) ≡ count counters c % 2 ^ 32 }
-    ensures length { (counters : List Counter) → length (memory_of counters) ≡ 128 }
+    ensures value { (counters : List Counter) (c : Counter) → value_of c (memory_of counters) ≡ times_raised counters c % 2 ^ 32 }
+    ensures length { (counters : List Counter) → length (memory_of counters) ≡ memory_size }
 {}
 
 /// Installs are numbered from 0 on in the order in which a replay tells them, and each answer is by the one that is told
@@ -73,7 +74,7 @@ pub fn replays_add_up()
     ensures frames { (answers : List Answered) →
         passed answers + count_by (λ a. not (passes (verdict_of a.fate))) answers ≡ length answers }
     ensures counters { (answers : List Answered) →
-        sum_by (count (raised_by answers)) (drop 1 all_counters) ≤ length answers }
+        sum_by (times_raised (raised_by answers)) (drop 1 all_counters) ≤ length answers }
 {}
 
 /// When the replies to an update come: `Same` exactly where the state stays equal, `Refused` exactly where the state refuses

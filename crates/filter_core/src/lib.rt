@@ -11,6 +11,7 @@ mod living;
 mod making;
 mod records;
 mod sharing;
+mod taking;
 #[cfg(test)]
 mod tests;
 
@@ -22,3 +23,4 @@ pub use laws::{
 };
 pub use living::{Core, StartError};
 pub use sharing::types_are_shared;
+pub use taking::{Taken, due, installs, passes};

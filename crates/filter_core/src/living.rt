@@ -9,15 +9,17 @@ ghost use Rattle.filter_core.specs.Coded.{IsAnswer};
 ghost use Rattle.filter_core.specs.Records.{match_of};
 ghost use Rattle.filter_core.specs.Standing.{filter_of};
 ghost use Rattle.filter_core.specs.Steps.{first, with_state, updated, seen_again, seen_first, by_match, advertised};
+ghost use Rattle.policy_state.specs.Limits.{records_most};
+ghost use Rattle.apf_base.specs.Limits.{frame_limit, memory_size};
 
 use crate::ending::is_ending;
 use crate::install::Install;
 use crate::making::{make_install, make_next};
 use crate::records::{match_of, move_to_front, standing};
-use apf_base::{List, OutOfMemory};
-use policy_state::{Answer, Changed, Config, FilterState, Update, UpdateReply};
+use apf_base::{List, MEMORY_SIZE, OutOfMemory};
+use policy_state::{Answer, Changed, Config, FilterState, RECORDS_MOST, Update, UpdateReply};
 use ra_records::{Held, RaError, RaReply, Record};
-use size_fit::base;
+use size_fit::{base, limit};
 use std::alloc::Global;
 use std::marker::Model;
 
@@ -36,30 +38,31 @@ pub struct Core {
     held: List<Held>,
     added: u64,
     clock: u32,
-    memory: [u8; 128],
+    memory: [u8; MEMORY_SIZE],
 }
 
 impl Model for Core {
     ghost use Rattle.std.specs.Prelude.{◌≤◌, length};
+    ghost use Rattle.policy_state.specs.Limits.{records_most};
     ghost use Rattle.filter_core.specs.Standing.{Standing};
 
     ghost Value = { Standing };
 
     ghost view = { λ c. record { install = c.install; held = c.held; added = c.added; clock = c.clock; memory = c.memory } };
 
-    ghost invariant = { λ c. (length c.held ≤ 10) × (c.added ≤ c.install.number) };
+    ghost invariant = { λ c. (length c.held ≤ records_most) × (c.added ≤ c.install.number) };
 }
 
 impl Core {
     /// A filter at its start, at the second `now`: install 0, no records, and counters of zeros.
     pub fn new(alloc: Global, config: Config, now: u32) -> Result<Core, StartError>
         ensures filter { IfOk result (λ core. filter_of core ≡ first config now) }
-        ensures memory { IfOk result (λ core. core.memory ≡ replicate 128 0) }
+        ensures memory { IfOk result (λ core. core.memory ≡ replicate memory_size 0) }
         ensures too_large { (need limit : ℕ) → (result ≡ Err (StartError.TooLarge need limit)) ↔ ((limit < need) × (need ≡ base config start) × (limit ≡ limit_of config)) }
     {
         let state = FilterState::start();
         let need = base(&config, &state);
-        let limit = config.capacity - 128;
+        let limit = limit(&config);
         if need > limit {
             return Err(StartError::TooLarge { need, limit });
         }
@@ -70,7 +73,7 @@ impl Core {
                 held,
                 added: 0,
                 clock: now,
-                memory: [0; 128],
+                memory: [0; MEMORY_SIZE],
             }),
             Err(_) => Err(StartError::OutOfMemory),
         }
@@ -78,7 +81,7 @@ impl Core {
 
     /// Answers a frame that comes at the second `now`: the clock moves, and the install's program runs over the counters.
     pub fn answer(&mut self, frame: &[u8], now: u32) -> Answer
-        requires { length frame.now ≤ 262144 }
+        requires { length frame.now ≤ frame_limit }
         ensures answer { IsAnswer self.old.install frame.now (max self.old.clock now) self.old.memory result self.new.memory }
         ensures clock { self.new.clock ≡ max self.old.clock now }
         ensures install { self.new.install ≡ self.old.install }
@@ -91,7 +94,7 @@ impl Core {
 
     // These records take the place of those that are held, where there are some.
     fn hold(&mut self, records: Option<List<Held>>)
-        requires { length (unwrap_or records self.old.held) ≤ 10 }
+        requires { length (unwrap_or records self.old.held) ≤ records_most }
         ensures { self.new ≡ record self.old { held = unwrap_or records self.old.held } }
     {
         if let Some(records) = records {
@@ -106,7 +109,7 @@ impl Core {
         ensures err { OnErr result (self.new ≡ self.old) }
     {
         let need = base(&self.install.basis.config, &state);
-        let limit = self.install.basis.config.capacity - 128;
+        let limit = limit(&self.install.basis.config);
         if need > limit {
             return Ok(UpdateReply::NotInstalled { need, limit });
         }
@@ -170,7 +173,7 @@ impl Core {
         seen: Record,
     ) -> Result<RaReply, OutOfMemory>
         requires number { self.old.install.number < 2 ^ 64 - 1 }
-        requires few { length records ≤ 10 }
+        requires few { length records ≤ records_most }
         requires place { place < length records }
         ensures ok { IfOk result (λ reply. Goes advert_installs self.old (seen_again (record (filter_of self.old) { held = records }) seen place) reply self.new) }
         ensures err { OnErr result (self.new ≡ self.old) }
@@ -200,11 +203,11 @@ impl Core {
         advert: Record,
     ) -> Result<RaReply, OutOfMemory>
         requires number { self.old.install.number < 2 ^ 64 - 1 }
-        requires few { length records ≤ 10 }
+        requires few { length records ≤ records_most }
         ensures ok { IfOk result (λ reply. Goes advert_installs self.old (seen_first (record (filter_of self.old) { held = records }) advert) reply self.new) }
         ensures err { OnErr result (self.new ≡ self.old) }
     {
-        if records.len() >= 10 {
+        if records.len() >= RECORDS_MOST {
             self.held = records;
             return Ok(RaReply::Full);
         }
@@ -227,7 +230,12 @@ impl Core {
         Ok(RaReply::New(id))
     }
 
-    fn learn(&mut self, alloc: Global, frame: &[u8], now: u32) -> Result<RaReply, OutOfMemory>
+    fn read_advertisement(
+        &mut self,
+        alloc: Global,
+        frame: &[u8],
+        now: u32,
+    ) -> Result<RaReply, OutOfMemory>
         requires { self.old.install.number < 2 ^ 64 - 1 }
         ensures ok { IfOk result (λ reply. Goes advert_installs self.old (advertised (filter_of self.old) frame.now now) reply self.new) }
         ensures err { OnErr result (self.new ≡ record self.old { clock = max self.old.clock now }) }
@@ -258,14 +266,14 @@ impl Core {
         now: u32,
     ) -> Result<RaReply, OutOfMemory>
         requires number { self.old.install.number < 2 ^ 64 - 1 }
-        requires frame { length frame.now ≤ 262144 }
+        requires frame { length frame.now ≤ frame_limit }
         ensures reply { IfOk result (λ reply. reply ≡ (advertised (filter_of self.old) frame.now now).1) }
         ensures filter { IfOk result (λ _. filter_of self.new ≡ (advertised (filter_of self.old) frame.now now).0) }
         ensures install { IfOk result (λ reply. Renews (advert_installs reply) self.old.install self.new.install) }
         ensures memory { self.new.memory ≡ self.old.memory }
         ensures err { OnErr result (self.new ≡ record self.old { clock = max self.old.clock now }) }
     {
-        self.learn(alloc, frame, now)
+        self.read_advertisement(alloc, frame, now)
     }
 
     /// The install that stands.
@@ -290,7 +298,7 @@ impl Core {
     }
 
     /// The counters.
-    pub fn memory(&self) -> &[u8; 128]
+    pub fn memory(&self) -> &[u8; MEMORY_SIZE]
         ensures { result.now ≡ self.now.memory }
     {
         &self.memory
@@ -299,7 +307,7 @@ impl Core {
     /// The records that are held, in order. Expired ones stand here until a call lets them go.
     pub fn held(&self) -> &[Held]
         ensures value { result.now ≡ self.now.held }
-        ensures most { length result.now ≤ 10 }
+        ensures most { length result.now ≤ records_most }
     {
         self.held.as_slice()
     }

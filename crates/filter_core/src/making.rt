@@ -6,6 +6,7 @@ ghost use Rattle.size_fit.specs.Sizes.{base, limit_of};
 ghost use Rattle.filter_core.specs.Coded.{plain};
 ghost use Rattle.filter_core.specs.Installs.{install_of, chosen_at};
 ghost use Rattle.filter_core.specs.Records.{standing, ids_of};
+ghost use Rattle.policy_state.specs.Limits.{records_most};
 
 use crate::install::Install;
 use crate::records::{all_stand, standing};
@@ -13,7 +14,7 @@ use apf_base::{List, OutOfMemory};
 use apf_generate::generate;
 use policy_state::{Basis, Chosen, Config, FilterState};
 use ra_records::Held;
-use size_fit::choose;
+use size_fit::{choose, limit};
 use std::alloc::Global;
 
 /// Copies of the records, each with its hold.
@@ -51,12 +52,12 @@ pub(crate) fn make_install(
     state: FilterState,
     records: &[Held],
 ) -> Result<Install, OutOfMemory>
-    requires few { length records.now ≤ 10 }
+    requires few { length records.now ≤ records_most }
     requires fits { base config state ≤ limit_of config }
     ensures install { IfOk result (λ install. plain install ≡ install_of number now config state records.now) }
     ensures number { IfOk result (λ install. install.number ≡ number) }
 {
-    let limit = config.capacity - 128;
+    let limit = limit(&config);
     let Ok(fit) = choose(&config, &state, records, limit) else {
         unreachable!()
     };
@@ -87,7 +88,7 @@ pub(crate) fn make_next(
     state: FilterState,
     records: &[Held],
 ) -> Result<(Install, Option<List<Held>>), OutOfMemory>
-    requires few { length records.now ≤ 10 }
+    requires few { length records.now ≤ records_most }
     requires number { old.now.number < 2 ^ 64 - 1 }
     requires fits { base old.now.basis.config state ≤ limit_of old.now.basis.config }
     ensures install { IfOk result (λ next. plain next.0 ≡ install_of (old.now.number + 1) now old.now.basis.config state (standing now records.now)) }

@@ -1,6 +1,6 @@
 //! The types may be handed to and shared with other threads.
 
-use crate::{Core, Install, StartError};
+use crate::{Core, Install, StartError, Taken};
 
 fn is_shared<T: Send + Sync>() {}
 
@@ -9,4 +9,5 @@ pub fn types_are_shared() {
     is_shared::<Install>();
     is_shared::<Core>();
     is_shared::<StartError>();
+    is_shared::<Taken>();
 }

@@ -14,7 +14,7 @@ use Rattle.filter_core.specs.Installs.{Installed}
 use Rattle.filter_core.specs.Standing.{Standing, filter_of}
 use Rattle.filter_core.specs.Tally.{raised_by}
 use Rattle.filter_core.specs.Replay.{Arrival, Course, Entry, after_event, after_due, after_frame, after_arrival, answers_of, installs_of, story, replay, finished, totals}
-use Rattle.filter_report.proofs.Updating.{fold_one, fold_rest}
+use Rattle.filter_core.proofs.DueEvents.{fold_one, fold_rest}
 use Rattle.filter_report.proofs.Telling.{lines-append, answers-append, AllFit-append, steps-append}
 use Rattle.filter_report.specs.Along.{Along}
 use Rattle.filter_report.specs.Arrivals.{arrival_of, arrivals_of, frames_of}

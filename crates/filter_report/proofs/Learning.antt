@@ -1,5 +1,5 @@
 -- Frames, and what is learnt of them.
-use Rattle.std.proofs.Common.{◌≡◌, ℕ, zero, suc, ◌+◌, ◌-◌, ◌*◌, ◌≤◌, max, Bool, true, false, cond, List, [], ◌∷◌, ◌++◌, length, drop, Option, None, Some, Result, Ok, Err, refl, sym, ap, subst, ◌∙◌, arith, append_assoc}
+use Rattle.std.proofs.Common.{◌≡◌, ℕ, zero, suc, ◌+◌, ◌-◌, ◌*◌, max, Bool, true, false, cond, List, [], ◌∷◌, ◌++◌, length, drop, Option, None, Some, Result, Ok, Err, refl, sym, ap, subst, ◌∙◌, arith, append_assoc}
 use Rattle.std.specs.Prelude.{◌≢◌, ◌==◌, ◌&&◌, nat_lt, slice_index}
 use Rattle.std.proofs.lemmas.List.{append-nil}
 use Rattle.std.proofs.lemmas.List.Sums.{sum_by-append}
@@ -8,7 +8,7 @@ use Rattle.policy_state.specs.Whole.{verdict_of}
 use Rattle.policy_state.specs.declared.basis.Answer.{Answer}
 use Rattle.ra_records.proofs.Refusing.{refusals}
 use Rattle.ra_records.specs.Advert.{Advert, advert, candidate, least, lifetimes_in, router, seen_at}
-use Rattle.ra_records.specs.Options.{lifetimes_of, size_of, option_refusal, with_front, unless_refused, options_from}
+use Rattle.ra_records.specs.Options.{lifetimes_of, size_of, option_refusal, with_lifetimes, unless_refused, options_from}
 use Rattle.ra_records.specs.declared.replies.RaReply.{RaReply}
 use Rattle.ra_records.specs.declared.replies.RaReply.TheVariants as adverts
 use Rattle.ra_records.specs.declared.span.RaError.{RaError}
@@ -21,11 +21,12 @@ use Rattle.filter_core.specs.Records.{standing, match_of, is_full, with_last, to
 use Rattle.filter_core.specs.Replay.{Arrival, Course, Entry, install, learnt, answer, tells, learnt_entries, after_learning, after_frame, is_learnt, answers_of, passed, passes}
 use Rattle.filter_core.specs.Standing.{Standing, filter_of}
 use Rattle.filter_core.specs.Steps.{Filter, Answered, moved, state_of, reinstalled, is_ending, by_match, by_reading, advertised, answer_of}
+use Rattle.filter_core.specs.Taking.{Learns}
 use Rattle.filter_core.specs.declared.install.Install.{Install}
 use Rattle.script_text.specs.Report.{gen_line, frame_line, ra_line}
 use Rattle.filter_report.proofs.Telling.{told_plain, told_install, told_answer, answer_is, answers-append, with_answer}
 use Rattle.filter_report.specs.Along.{Along}
-use Rattle.filter_report.specs.Text.{with_one}
+use Rattle.filter_report.specs.Text.{with_one, lines_learnt}
 
 -- ---- a candidate is never refused as no advertisement
 
@@ -36,7 +37,7 @@ of_an_option false false true d at h = absurd cc
 of_an_option false false false true at h = absurd cc
 of_an_option false false false false at h = absurd cc
 
-behind_one : (o : Option RaError) (front : List Span) (read : Result (List Span) RaError) → o ≢ Some NotRa → read ≢ Err NotRa → unless_refused o (with_front front read) ≢ Err NotRa
+behind_one : (o : Option RaError) (front : List Span) (read : Result (List Span) RaError) → o ≢ Some NotRa → read ≢ Err NotRa → unless_refused o (with_lifetimes front read) ≢ Err NotRa
 behind_one (Some e) front read h k is = h (let x : e ≡ NotRa = cc in ap (λ (e : RaError). Some e) x)
 behind_one None front (Ok found) h k is = absurd cc
 behind_one None front (Err e) h k is = k (let x : e ≡ NotRa = cc in ap (λ (e : RaError). Err e) x)
@@ -49,7 +50,7 @@ of_options zero at (byte ∷ bytes) h =
     (of_an_option (nat_lt (length (byte ∷ bytes)) 2) (slice_index (byte ∷ bytes) 1 == 0) (nat_lt (length (byte ∷ bytes)) (size_of (byte ∷ bytes))) ((slice_index (byte ∷ bytes) 0 == 3) && nat_lt (size_of (byte ∷ bytes)) 16) at)
     (of_options (8 * slice_index bytes 0 - 1) (at + 1) bytes) h
 
-of_lengths : (a b c : Bool) (read : Result (List Span) RaError) → a ≡ true → read ≢ Err NotRa → cond a (cond b (Err Short) (cond c (Err TooLong) (with_front (router ∷ []) read))) (Err NotRa) ≢ Err NotRa
+of_lengths : (a b c : Bool) (read : Result (List Span) RaError) → a ≡ true → read ≢ Err NotRa → cond a (cond b (Err Short) (cond c (Err TooLong) (with_lifetimes (router ∷ []) read))) (Err NotRa) ≢ Err NotRa
 of_lengths false b c read is k h = absurd cc
 of_lengths true true c read is k h = absurd cc
 of_lengths true false true read is k h = absurd cc
@@ -92,22 +93,42 @@ reading_bad f frame (Ok seen) e is =
 reply_bad : (f : Filter) (frame : List ℕ) (now : ℕ) (e : RaError) (r : RaReply) → r ≡ (advertised f frame now).1 → r ≡ adverts.Bad e → advert frame (moved f now).clock ≡ Err e
 reply_bad f frame now e r replied is = let g = moved f now in reading_bad g frame (advert frame g.clock) e (sym replied ∙ is)
 
-pub reply_is_advertisement : (f : Filter) (frame : List ℕ) (now : ℕ) (r : RaReply) → candidate frame ≡ true → r ≡ (advertised f frame now).1 → r ≢ adverts.Bad NotRa
+reply_is_advertisement : (f : Filter) (frame : List ℕ) (now : ℕ) (r : RaReply) → candidate frame ≡ true → r ≡ (advertised f frame now).1 → r ≢ adverts.Bad NotRa
 reply_is_advertisement f frame now r is replied bad = candidates frame (moved f now).clock is (reply_bad f frame now NotRa r replied bad)
 
-pub reply_has_memory : (f : Filter) (frame : List ℕ) (now : ℕ) (r : RaReply) → r ≡ (advertised f frame now).1 → r ≢ adverts.Bad OutOfMemory
+reply_has_memory : (f : Filter) (frame : List ℕ) (now : ℕ) (r : RaReply) → r ≡ (advertised f frame now).1 → r ≢ adverts.Bad OutOfMemory
 reply_has_memory f frame now r replied bad = refusals frame (moved f now).clock (reply_bad f frame now OutOfMemory r replied bad)
 
 -- ---- learning
 
+-- what isn't refused so was learnt from
+both : (a b : Bool) → (a && b) ≡ true → b ≡ true
+both true b e = e
+both false b e = absurd cc
+
+module _ (frame : List ℕ) (now : ℕ) (old new : Standing) where
+  if_candidate : (t : Bool) (reply : Option RaReply) (e : RaError) → (t ≡ true → (r : RaReply) → r ≡ (advertised (filter_of old) frame now).1 → r ≢ adverts.Bad e) →
+      Learns t frame now old reply new → reply ≢ Some (adverts.Bad e)
+  if_candidate false None e other h is = absurd cc
+  if_candidate true (Some r) e other h is = other refl r h.reply (let x : r ≡ adverts.Bad e = cc in x)
+  if_candidate false (Some r) e other h is = absurd h
+  if_candidate true None e other h is = absurd h
+
+  pub learnt_is_advertisement : (passed : Bool) (reply : Option RaReply) → Learns (passed && candidate frame) frame now old reply new → reply ≢ Some (adverts.Bad NotRa)
+  learnt_is_advertisement passed reply h =
+      if_candidate (passed && candidate frame) reply NotRa (λ is r replied. reply_is_advertisement (filter_of old) frame now r (both passed (candidate frame) is) replied) h
+
+  pub learnt_has_memory : (passed : Bool) (reply : Option RaReply) → Learns (passed && candidate frame) frame now old reply new → reply ≢ Some (adverts.Bad OutOfMemory)
+  learnt_has_memory passed reply h =
+      if_candidate (passed && candidate frame) reply OutOfMemory (λ is r replied. reply_has_memory (filter_of old) frame now r replied) h
+
 -- the reply's line, and that of a new install
-abbrev pub lines_learnt : Bool → ℕ → RaReply → Install → List (List ℕ)
-lines_learnt true k r i = ra_line k r ∷ gen_line i.number i.at i.left i.code ∷ []
-lines_learnt false k r i = ra_line k r ∷ []
+abbrev reply_lines : Bool → ℕ → RaReply → Install → List (List ℕ)
+reply_lines t k r i = ra_line k r ∷ cond t (gen_line i.number i.at i.left i.code ∷ []) []
 
 learning_step : (t : Bool) (c : Course) (core new : Standing) (frames lines : List (List ℕ)) (f : Filter) (k : ℕ) (r : RaReply) →
     Along c core frames lines → filter_of new ≡ f → new.memory ≡ core.memory → Renews t core.install new.install →
-    Along (tells c f (cond t (learnt k r ∷ install f.install ∷ []) (learnt k r ∷ []))) new frames (lines ++ lines_learnt t k r new.install)
+    Along (tells c f (cond t (learnt k r ∷ install f.install ∷ []) (learnt k r ∷ []))) new frames (lines ++ reply_lines t k r new.install)
 learning_step false c core new frames lines f k r a is kept same =
     told_plain c core new frames lines f (learnt k r) (ra_line k r) a is same kept refl refl (λ programs steps. refl)
 learning_step true c core new frames lines f k r a is kept next =
@@ -122,28 +143,13 @@ learning_step true c core new frames lines f k r a is kept next =
 told_learning : (c : Course) (core new : Standing) (frames lines : List (List ℕ)) (second : ℕ) (frame : List ℕ) (r : RaReply) →
     Along c core frames lines → r ≡ (advertised (filter_of core) frame second).1 → filter_of new ≡ (advertised (filter_of core) frame second).0 →
     Renews (advert_installs r) core.install new.install → new.memory ≡ core.memory →
-    Along (after_learning c (record { second = second; frame = frame })) new frames (lines ++ lines_learnt (advert_installs r) c.frames r new.install)
+    Along (after_learning c (record { second = second; frame = frame })) new frames (lines ++ reply_lines (advert_installs r) c.frames r new.install)
 told_learning c core new frames lines second frame r a replied is renews kept =
     let after = advertised (filter_of core) frame second in
-    let all = lines ++ lines_learnt (advert_installs r) c.frames r new.install in
+    let all = lines ++ reply_lines (advert_installs r) c.frames r new.install in
     subst (λ (f : Filter). let after = advertised f frame second in Along (tells c after.0 (learnt_entries c.frames after)) new frames all) a.at
     (subst (λ (q : RaReply). Along (tells c after.0 (learnt_entries c.frames (after.0, q))) new frames all) replied
     (learning_step (advert_installs r) c core new frames lines after.0 c.frames r a is kept renews))
-
--- the same, by whether there is a new install
-pub learning_along : (t : Bool) (c : Course) (core new : Standing) (frames lines more : List (List ℕ)) (second k : ℕ) (frame : List ℕ) (r : RaReply) →
-    Along c core frames lines → r ≡ (advertised (filter_of core) frame second).1 → filter_of new ≡ (advertised (filter_of core) frame second).0 →
-    Renews (advert_installs r) core.install new.install → new.memory ≡ core.memory →
-    k ≡ length frames → advert_installs r ≡ t → more ≡ lines_learnt t k r new.install →
-    Along (after_learning c (record { second = second; frame = frame })) new frames (lines ++ more)
-learning_along t c core new frames lines more second k frame r a replied is renews kept count installs shown =
-    subst (λ (l : List (List ℕ)). Along (after_learning c (record { second = second; frame = frame })) new frames (lines ++ l))
-    (ap (λ (b : Bool). lines_learnt b c.frames r new.install) installs ∙ ap (λ (n : ℕ). lines_learnt t n r new.install) (a.taken ∙ sym count) ∙ sym shown)
-    (told_learning c core new frames lines second frame r a replied is renews kept)
-
-pub renews_number : (t : Bool) (old new : Install) → Renews t old new → new.number ≤ old.number + 1
-renews_number true old new h = omega (arith, h)
-renews_number false old new h = let same : new.number ≡ old.number = ap (λ (i : Install). i.number) h in omega arith
 
 -- ---- frames
 
@@ -210,34 +216,29 @@ module _ (c : Course) (core mid : Standing) (frames lines : List (List ℕ)) (se
   learns : (t : Bool) → (passes result.verdict && candidate frame) ≡ t → is_learnt (answer_at c second frame) frame ≡ t
   learns t e = ap (λ (x : Answered). is_learnt x frame) at_own ∙ ap (λ v. passes v && candidate frame) (sym is.decided) ∙ e
 
-  pub frame_kept : (more : List (List ℕ)) → (passes result.verdict && candidate frame) ≡ false → more ≡ frame_line (c.frames + 1) None result ∷ []
-      → Along (after_frame c (record { second = second; frame = frame })) mid (frames ++ frame ∷ []) (lines ++ more)
-  frame_kept more e shown =
-      let d = answered c second frame in
-      let arrival : Arrival = record { second = second; frame = frame } in
-      subst (λ (t : Bool). Along (cond t (after_learning d arrival) d) mid (frames ++ frame ∷ []) (lines ++ more)) (sym (learns false e))
-      (subst (λ (l : List (List ℕ)). Along d mid (frames ++ frame ∷ []) (lines ++ l)) (sym shown) told_frame)
-
-  pub frame_learnt : (new : Standing) (more later : List (List ℕ)) → (passes result.verdict && candidate frame) ≡ true
-      → ((d : Course) (fs ls : List (List ℕ)) → Along d mid fs ls → c.frames + 1 ≡ length fs → Along (after_learning d (record { second = second; frame = frame })) new fs (ls ++ later))
-      → more ≡ (frame_line (c.frames + 1) None result ∷ []) ++ later
+  -- the frame's lines, by whether it is learnt from
+  pub frame_along : (t : Bool) (reply : Option RaReply) (new : Standing) (more : List (List ℕ)) → (passes result.verdict && candidate frame) ≡ t → Learns t frame second mid reply new
+      → more ≡ frame_line (c.frames + 1) None result ∷ lines_learnt (c.frames + 1) reply new.install
       → Along (after_frame c (record { second = second; frame = frame })) new (frames ++ frame ∷ []) (lines ++ more)
-  frame_learnt new more later e learning shown =
+  frame_along false None new more e same shown =
       let d = answered c second frame in
       let arrival : Arrival = record { second = second; frame = frame } in
-      let here = told_frame in
+      subst (λ (t : Bool). Along (cond t (after_learning d arrival) d) new (frames ++ frame ∷ []) (lines ++ more)) (sym (learns false e))
+      (subst (λ (l : List (List ℕ)). Along d new (frames ++ frame ∷ []) (lines ++ l)) (sym shown)
+      (subst (λ (s : Standing). Along d s (frames ++ frame ∷ []) (lines ++ frame_line (c.frames + 1) None result ∷ [])) (sym same) told_frame))
+  frame_along true (Some r) new more e goes shown =
+      let d = answered c second frame in
+      let arrival : Arrival = record { second = second; frame = frame } in
       let line = frame_line (c.frames + 1) None result ∷ [] in
       subst (λ (t : Bool). Along (cond t (after_learning d arrival) d) new (frames ++ frame ∷ []) (lines ++ more)) (sym (learns true e))
-      (subst (λ (l : List (List ℕ)). Along (after_learning d arrival) new (frames ++ frame ∷ []) l) (append_assoc lines line later ∙ ap (λ (l : List (List ℕ)). lines ++ l) (sym shown))
-      (learning d (frames ++ frame ∷ []) (lines ++ line) here here.taken))
+      (subst (λ (l : List (List ℕ)). Along (after_learning d arrival) new (frames ++ frame ∷ []) l)
+      (append_assoc lines line (lines_learnt (c.frames + 1) (Some r) new.install) ∙ ap (λ (l : List (List ℕ)). lines ++ l) (sym shown))
+      (told_learning d mid new (frames ++ frame ∷ []) (lines ++ line) second frame r told_frame goes.reply goes.filter goes.install goes.memory))
+  frame_along false (Some r) new more e none shown = absurd none
+  frame_along true None new more e none shown = absurd none
 
   -- how many frames passed
   pub frame_passed : passed (answers_of (after_frame c (record { second = second; frame = frame })).told) ≡ with_one (passes result.verdict) (passed (answers_of c.told))
   frame_passed =
       passed_frame c (record { second = second; frame = frame }) ∙ ap (λ (x : Answered). with_one (passes (verdict_of x.fate)) (passed (answers_of c.told))) at_own
       ∙ ap (λ v. with_one (passes v) (passed (answers_of c.told))) (sym is.decided)
-
--- ---- lines that were put together
-
-pub two_lines : (all first : List (List ℕ)) (x y u v : List ℕ) → all ≡ first ++ y ∷ [] → first ≡ x ∷ [] → x ≡ u → y ≡ v → all ≡ u ∷ v ∷ []
-two_lines all first x y u v is one ex ey = is ∙ ap (λ (l : List (List ℕ)). l ++ y ∷ []) one ∙ ap (λ (l : List ℕ). l ∷ y ∷ []) ex ∙ ap (λ (l : List ℕ). u ∷ l ∷ []) ey

@@ -1,11 +1,10 @@
 -- The last lines are those of the totals.
-use Rattle.std.proofs.Common.{◌≡◌, ℕ, suc, ◌+◌, ◌*◌, ◌^◌, ◌<◌, ◌≤◌, ◌==◌, Bool, true, false, cond, List, [], ◌∷◌, ◌++◌, length, map, take, flat_map, refl, sym, ap, subst, ◌∙◌, arith, append_assoc}
-use Rattle.std.specs.Option.{option_map_or}
-use Rattle.std.proofs.lemmas.Grind.{take_at_read, flat_map-append}
-use Rattle.std.proofs.lemmas.List.{append-nil, map-append}
+use Rattle.std.proofs.Common.{◌≡◌, ℕ, suc, ◌+◌, ◌*◌, ◌^◌, ◌<◌, ◌≤◌, ◌==◌, Bool, true, false, cond, List, [], ◌∷◌, ◌++◌, length, map, take, get_or, flat_map, refl, sym, ap, subst, ◌∙◌, arith, append_assoc}
+use Rattle.std.proofs.lemmas.Grind.{flat_map-append}
+use Rattle.std.proofs.lemmas.List.{append-nil, map-append, take_all}
 use Rattle.std.proofs.lemmas.List.Sums.{sum_by-cons}
-use Rattle.data_counters.proofs.Listed.{at, counter_of-next}
-use Rattle.data_counters.specs.Counters.{number_of, counter_of, all_counters}
+use Rattle.data_counters.proofs.Listed.{flat_map-more}
+use Rattle.data_counters.specs.Counters.{number_of, all_counters, counter_count}
 use Rattle.data_counters.specs.Memory.{value_of}
 use Rattle.data_counters.specs.declared.counter.Counter.{Counter}
 use Rattle.data_counters.specs.declared.counter.Counter.TheVariants.{TotalPackets}
@@ -16,7 +15,7 @@ use Rattle.filter_core.specs.Installs.{Installed}
 use Rattle.filter_core.specs.Replay.{Course, Entry, counted, total, answers_of, installs_of, counted_in, passed, totals}
 use Rattle.filter_core.specs.Standing.{Standing}
 use Rattle.filter_core.specs.Steps.{Answered}
-use Rattle.filter_core.specs.Tally.{count, raises, raised_by, memory_of}
+use Rattle.filter_core.specs.Tally.{times_raised, raises, raised_by, memory_of}
 use Rattle.script_text.specs.Report.{counted_line, total_line}
 use Rattle.filter_report.proofs.Leading.{codes_behind, leads_lines, lines_told}
 use Rattle.filter_report.proofs.Telling.{answers-append, lines-append, length-AllFit}
@@ -24,27 +23,22 @@ use Rattle.filter_report.specs.Along.{Along, Reporting, InCourse}
 use Rattle.filter_report.specs.Report.{AllFit, steps_from, Tells, AllHaveCodes, Leads}
 use Rattle.filter_report.specs.Text.{entry_line, entry_lines, lines_of_counter, last_lines}
 
--- ---- the lines of the counters up to a number
+-- ---- the lines of the first counters
 pub counted_lines : List ℕ → ℕ → List (List ℕ)
 counted_lines memory k = flat_map (lines_of_counter memory) (take k all_counters)
 
-pub counted_lines-more : (memory : List ℕ) (k : ℕ) → k < 27 → counted_lines memory (k + 1) ≡ counted_lines memory k ++ option_map_or (lines_of_counter memory) (counter_of (k + 1)) []
-unfolding counted_lines at
-counted_lines-more memory k lt =
-    let found = counter_of-next k lt in
-    let more = (take_at_read all_counters k TotalPackets (omega arith)).1 in
-    ap (λ (cs : List Counter). flat_map (lines_of_counter memory) cs) more
-    ∙ flat_map-append (lines_of_counter memory) (take k all_counters) (at k ∷ [])
-    ∙ ap (λ (t : List (List ℕ)). counted_lines memory k ++ t) (append-nil (lines_of_counter memory (at k)))
-    ∙ ap (λ o. counted_lines memory k ++ option_map_or (lines_of_counter memory) o []) (sym found)
+pub counted_lines-more : (memory : List ℕ) (k : ℕ) → k < counter_count
+    → counted_lines memory k ++ lines_of_counter memory (get_or all_counters k TotalPackets) ≡ counted_lines memory (k + 1)
+unfolding counted_lines
+counted_lines-more memory k lt = flat_map-more (lines_of_counter memory) k lt
 
 pub counted_lines-none : (memory : List ℕ) → counted_lines memory 0 ≡ []
 unfolding counted_lines
 counted_lines-none memory = refl
 
-pub counted_lines-all : (memory : List ℕ) → counted_lines memory 27 ≡ flat_map (lines_of_counter memory) all_counters
+pub counted_lines-all : (memory : List ℕ) (k : ℕ) → counter_count ≤ k → counted_lines memory k ≡ flat_map (lines_of_counter memory) all_counters
 unfolding counted_lines
-counted_lines-all memory = refl
+counted_lines-all memory k all = ap (λ (cs : List Counter). flat_map (lines_of_counter memory) cs) (take_all k all_counters all)
 
 -- ---- counters are counts
 
@@ -61,15 +55,15 @@ one_most : (t : Bool) (n m : ℕ) → n ≤ m → cond t 1 0 + n ≤ suc m
 one_most true n m le = omega (arith, le)
 one_most false n m le = omega (arith, le)
 
-count_most : (raised : List Counter) (c : Counter) → count raised c ≤ length raised
+count_most : (raised : List Counter) (c : Counter) → times_raised raised c ≤ length raised
 count_most [] c = omega arith
 count_most (d ∷ raised) c =
     subst (λ (n : ℕ). n ≤ suc (length raised)) (sym (sum_by-cons (λ (e : Counter). cond (number_of e == number_of c) 1 0) d raised))
-    (one_most (number_of d == number_of c) (count raised c) (length raised) (count_most raised c))
+    (one_most (number_of d == number_of c) (times_raised raised c) (length raised) (count_most raised c))
 
-value_is : (answers : List Answered) (c : Counter) → length answers < 2 ^ 31 → value_of c (memory_of (raised_by answers)) ≡ count (raised_by answers) c
+value_is : (answers : List Answered) (c : Counter) → length answers < 2 ^ 31 → value_of c (memory_of (raised_by answers)) ≡ times_raised (raised_by answers) c
 value_is answers c few =
-    let small : count (raised_by answers) c < 2 ^ 32 = omega (arith, few_raised answers, count_most (raised_by answers) c) in
+    let small : times_raised (raised_by answers) c < 2 ^ 32 = omega (arith, few_raised answers, count_most (raised_by answers) c) in
     value_of-counts (raised_by answers) c ∙ omega arith
 
 one_line : (programs : List (List ℕ)) (steps : List ℕ) (t : Bool) (c : Counter) (n : ℕ) → map (entry_line programs steps) (cond t [] (counted c n ∷ [])) ≡ cond t [] (counted_line c n ∷ [])
@@ -80,7 +74,7 @@ counter_lines : (programs : List (List ℕ)) (steps : List ℕ) (answers : List 
     → map (entry_line programs steps) (flat_map (counted_in answers) cs) ≡ flat_map (lines_of_counter (memory_of (raised_by answers))) cs
 counter_lines programs steps answers [] few = refl
 counter_lines programs steps answers (c ∷ cs) few =
-    let n = count (raised_by answers) c in
+    let n = times_raised (raised_by answers) c in
     let here : map (entry_line programs steps) (counted_in answers c) ≡ lines_of_counter (memory_of (raised_by answers)) c =
     one_line programs steps (n == 0) c n ∙ ap (λ (v : ℕ). cond (v == 0) [] (counted_line c v ∷ [])) (sym (value_is answers c few)) in
     map-append (entry_line programs steps) (counted_in answers c) (flat_map (counted_in answers) cs)
@@ -97,10 +91,10 @@ totals_lines programs steps told few =
     ∙ ap (λ (l : List (List ℕ)). l ++ map (entry_line programs steps) last) (counter_lines programs steps answers all_counters few)
 
 -- the lines of all counters, and the last line
-pub last_lines_are : (memory : List ℕ) (frames passed installs : ℕ) (lines counters : List (List ℕ)) (line : List ℕ) →
-    lines ≡ counters ++ line ∷ [] → counters ≡ counted_lines memory 27 → line ≡ total_line frames passed installs → lines ≡ last_lines memory frames passed installs
-last_lines_are memory frames passed installs lines counters line is counts last =
-    is ∙ ap (λ (l : List (List ℕ)). l ++ line ∷ []) (counts ∙ counted_lines-all memory) ∙ ap (λ (l : List ℕ). flat_map (lines_of_counter memory) all_counters ++ l ∷ []) last
+pub last_lines_are : (memory : List ℕ) (k frames passed installs : ℕ) (lines counters : List (List ℕ)) (line : List ℕ) → counter_count ≤ k →
+    lines ≡ counters ++ line ∷ [] → counters ≡ counted_lines memory k → line ≡ total_line frames passed installs → lines ≡ last_lines memory frames passed installs
+last_lines_are memory k frames passed installs lines counters line all is counts last =
+    is ∙ ap (λ (l : List (List ℕ)). l ++ line ∷ []) (counts ∙ counted_lines-all memory k all) ∙ ap (λ (l : List ℕ). flat_map (lines_of_counter memory) all_counters ++ l ∷ []) last
 
 -- ---- the lines of totals show neither codes nor steps
 
@@ -110,7 +104,7 @@ counters_apart programs steps answers [] = refl
 counters_apart programs steps answers (c ∷ cs) =
     let here = counted_in answers c in
     let rest = flat_map (counted_in answers) cs in
-    let n = count (raised_by answers) c in
+    let n = times_raised (raised_by answers) c in
     map-append (entry_line programs steps) here rest
     ∙ ap (λ (l : List (List ℕ)). l ++ map (entry_line programs steps) rest) (one_line programs steps (n == 0) c n ∙ sym (one_line [] [] (n == 0) c n))
     ∙ ap (λ (l : List (List ℕ)). map (entry_line [] []) here ++ l) (counters_apart programs steps answers cs)

@@ -5,7 +5,7 @@ use Rattle.std.proofs.Math.Seq.{get_or-append_seam}
 use Rattle.apf_coding.specs.Run.{run}
 use Rattle.apf_generate.specs.Means.{memory_after}
 use Rattle.data_counters.specs.declared.counter.Counter.{Counter}
-use Rattle.policy_state.specs.Whole.{verdict_of, counter_of}
+use Rattle.policy_state.specs.Whole.{verdict_of, counter_of_fate}
 use Rattle.policy_state.specs.declared.basis.Answer.{Answer}
 use Rattle.filter_core.proofs.Answering.{meaning}
 use Rattle.filter_core.proofs.Counting.{memory_of-more}
@@ -132,7 +132,7 @@ told_install c core new frames lines f a is next kept =
     })
 
 -- an answer is its parts
-pub answer_is : (r : Answer) (x : Answered) (s : ℕ) → r.number ≡ x.number → r.age ≡ x.age → r.verdict ≡ verdict_of x.fate → r.counter ≡ counter_of x.fate → r.steps ≡ s → r ≡ with_steps x s
+pub answer_is : (r : Answer) (x : Answered) (s : ℕ) → r.number ≡ x.number → r.age ≡ x.age → r.verdict ≡ verdict_of x.fate → r.counter ≡ counter_of_fate x.fate → r.steps ≡ s → r ≡ with_steps x s
 answer_is r x s number age verdict counter steps = rw (sym number, sym age, sym verdict, sym counter, sym steps) refl
 
 -- the course with one more frame, which has this answer

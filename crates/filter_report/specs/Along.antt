@@ -8,6 +8,7 @@ use Rattle.filter_core.specs.Tally.{memory_of, raised_by}
 use Rattle.filter_core.specs.Replay.{Course, answers_of, installs_of, passed}
 use Rattle.filter_report.specs.Text.{entry_lines}
 use Rattle.filter_report.specs.Report.{AllFit, steps_from}
+use Rattle.apf_base.specs.Limits.{memory_size}
 
 -- A core goes along with a course: it stands where the course is, and the lines so far tell it.
 pub record Along (c : Course) (core : Standing) (frames lines : List (List ℕ)) : Type 0 where
@@ -40,6 +41,6 @@ pub record InCourse (c : Course) (f : Reporting) (frames lines : List (List ℕ)
   pub frames_passed : f.passed ≡ passed (answers_of c.told)
 
 -- a core at its start, with counters of zeros
-pub record IsFirst (config : Config) (now : ℕ) (core : Standing) : Type 0 where
+pub record IsFirstCore (config : Config) (now : ℕ) (core : Standing) : Type 0 where
   pub filter : filter_of core ≡ first config now
-  pub memory : core.memory ≡ replicate 128 0
+  pub memory : core.memory ≡ replicate memory_size 0

@@ -5,7 +5,7 @@ use Rattle.command_plan.specs.declared.fault.Refusal.TheVariants.{TooLarge}
 use Rattle.command_plan.specs.declared.fault.Fault.{Fault}
 use Rattle.command_plan.specs.declared.fault.Fault.TheVariants.{Refused, OutOfMemory, Write}
 
-abbrev pub fault_of : ReportFault → Fault
-fault_of (reports.TooLarge need limit) = Refused (TooLarge need limit)
-fault_of reports.OutOfMemory = OutOfMemory
-fault_of reports.Write = Write
+abbrev pub command_fault : ReportFault → Fault
+command_fault (reports.TooLarge need limit) = Refused (TooLarge need limit)
+command_fault reports.OutOfMemory = OutOfMemory
+command_fault reports.Write = Write

@@ -1,8 +1,8 @@
 //! Events of a script, and their lines.
 
-ghost use Rattle.std.specs.Prelude.{◌≡◌, ◌≢◌, ◌≤◌, ◌<◌, ◌+◌, ◌-◌, ◌^◌, ◌∷◌, [], ◌++◌, ℕ, List as Items, length, take, drop, fold, IfOk, IfErr, OnOk, Err};
+ghost use Rattle.std.specs.Prelude.{◌≡◌, ◌≢◌, ◌≤◌, ◌<◌, ◌+◌, ◌-◌, ◌^◌, ◌∷◌, [], ◌++◌, ℕ, List as Items, length, fold, IfOk, IfErr, OnOk, Err};
 ghost use Rattle.apf_base.specs.Causes.{Rose};
-ghost use Rattle.filter_core.specs.Replay.{Course, after_event, after_due, is_due};
+ghost use Rattle.filter_core.specs.Replay.{Course, after_event};
 ghost use Rattle.filter_report.specs.Along.{Along};
 ghost use Rattle.filter_report.specs.Lines.{Adds, BreaksOff};
 ghost use Rattle.filter_report.specs.Report.{Leads};
@@ -14,28 +14,6 @@ use apf_base::{List, OutOfMemory, Sink};
 use filter_core::Core;
 use policy_state::{Timed, UpdateReply};
 use std::alloc::Global;
-
-/// Whether an event is due at a second.
-fn is_due(event: &Timed, second: u32) -> bool
-    ensures { result ≡ is_due second event.now }
-{
-    event.time <= second
-}
-
-/// How many events at the front are due at a second.
-pub(crate) fn due(events: &[Timed], second: u32) -> usize
-    ensures due { (c : Course) → after_due second c events.now ≡ record (fold after_event c (take result events.now)) { events = drop result events.now } }
-    ensures most { result ≤ length events.now }
-{
-    let mut count = 0;
-    for event in events {
-        if !is_due(event, second) {
-            return count;
-        }
-        count += 1;
-    }
-    count
-}
 
 /// Takes an event, and gives its line.
 fn event_line(alloc: Global, core: &mut Core, event: &Timed) -> Result<List<u8>, OutOfMemory>

@@ -2,7 +2,7 @@
 
 ghost use Rattle.std.specs.Prelude.{◌≡◌};
 ghost use Rattle.filter_report.specs.declared.fault.ReportFault.TheVariants.{OutOfMemory as NoMemory, Write as NotWritten};
-ghost use Rattle.filter_report.specs.Faults.{fault_of};
+ghost use Rattle.filter_report.specs.Faults.{command_fault};
 
 use apf_base::{Failed, OutOfMemory};
 use command_plan::{Fault, Refusal};
@@ -34,7 +34,7 @@ impl From<Failed> for ReportFault {
 }
 
 impl From<ReportFault> for Fault {
-    ghost from_gives = { λ e fault. fault ≡ fault_of e };
+    ghost from_gives = { λ e fault. fault ≡ command_fault e };
 
     fn from(fault: ReportFault) -> Self {
         match fault {

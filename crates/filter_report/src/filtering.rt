@@ -9,20 +9,21 @@ ghost use Rattle.filter_core.specs.Replay.{Course, after_arrival, after_due, aft
 ghost use Rattle.pcap_files.specs.Capture.{frame_of, IsWithin};
 ghost use Rattle.policy_state.specs.States.{start};
 ghost use Rattle.size_fit.specs.Sizes.{base, limit_of};
-ghost use Rattle.filter_report.specs.Along.{InCourse, IsFirst};
+ghost use Rattle.filter_report.specs.Along.{InCourse, IsFirstCore};
 ghost use Rattle.filter_report.specs.Arrivals.{arrivals_of};
 ghost use Rattle.filter_report.specs.Lines.{Adds, BreaksOff};
 ghost use Rattle.filter_report.specs.Text.{with_one, entry_lines};
 ghost use Rattle.filter_report.specs.Report.{Leads, Tells, ended};
+ghost use Rattle.apf_base.specs.Limits.{frame_limit};
 
-use crate::events::{due, take_events};
+use crate::events::take_events;
 use crate::fault::ReportFault;
 use crate::frames::frame_lines;
 use crate::lines::gen_line;
 use crate::totals::last_lines;
 use crate::writing::{write_first_and_more, write_lines};
 use apf_base::{List, Sink};
-use filter_core::{Core, StartError};
+use filter_core::{Core, StartError, due};
 use pcap_files::{Placed, frame_at};
 use policy_state::{Config, Script, Timed};
 use std::alloc::Global;
@@ -54,7 +55,7 @@ impl Model for Filtering {
 
 /// The core at its start.
 fn start_core(alloc: Global, config: Config, now: u32) -> Result<Core, ReportFault>
-    ensures along { IfOk result (λ core. IsFirst config now core) }
+    ensures along { IfOk result (λ core. IsFirstCore config now core) }
     ensures too_large { (need limit : ℕ) → result ≡ Err (ReportFault.TooLarge need limit) → (limit < need) × (need ≡ base config start) × (limit ≡ limit_of config) }
     ensures fits { limit_of config < base config start → result ≡ Err (ReportFault.TooLarge (base config start) (limit_of config)) }
     ensures no_write { result ≢ Err ReportFault.Write }
@@ -141,7 +142,7 @@ impl Filtering {
         out: &mut O,
     ) -> Result<(), ReportFault>
         requires few { self.old.frames + 1 < 2 ^ 31 }
-        requires frame { length frame.now ≤ 262144 }
+        requires frame { length frame.now ≤ frame_limit }
         ensures ok { (c : Course) (frames : Items (Items ℕ))
             → OnOk result (Adds (InCourse c self.old frames) (InCourse (after_frame c (record { second = second; frame = frame.now })) self.new (frames ++ frame.now ∷ [])) (O.held out.old) (O.held out.new)) }
         ensures err { (c : Course) (frames : Items (Items ℕ))
@@ -166,7 +167,7 @@ impl Filtering {
         out: &mut O,
     ) -> Result<(), ReportFault>
         requires few { self.old.frames + 1 < 2 ^ 31 }
-        requires frame { length frame.now ≤ 262144 }
+        requires frame { length frame.now ≤ frame_limit }
         ensures ok { (c : Course) (frames : Items (Items ℕ))
             → OnOk result (Adds (InCourse c self.old frames) (InCourse (after_arrival c (record { second = second; frame = frame.now })) self.new (frames ++ frame.now ∷ [])) (O.held out.old) (O.held out.new)) }
         ensures err { (c : Course) (frames : Items (Items ℕ))

@@ -2,7 +2,7 @@
 
 ghost use Rattle.std.specs.Prelude.{◌≡◌, ◌≤◌, ◌⊎◌, length};
 ghost use Rattle.std.specs.Option.{option_copied};
-ghost use Rattle.frame_views.specs.Fields.{value_of, field, part};
+ghost use Rattle.frame_views.specs.Fields.{bytes_value, field, part};
 
 /// The bytes from a place on.
 #[tactic(auto, unfolding(crate::specs::Fields::part))]
@@ -31,7 +31,7 @@ pub fn number(frame: &[u8], at: u32, width: u32) -> Option<u32>
 /// The big-endian value of at most four bytes.
 fn value(bytes: &[u8]) -> u32
     requires { length bytes.now ≤ 4 }
-    ensures { result ≡ value_of bytes.now }
+    ensures { result ≡ bytes_value bytes.now }
 {
     match bytes {
         [] => 0,

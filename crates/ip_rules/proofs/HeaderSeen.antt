@@ -4,7 +4,7 @@ use Rattle.std.specs.Prelude.{nat_lt, slice_index}
 use Rattle.std.proofs.lemmas.List.{get_or-drop}
 use Rattle.apf_coding.specs.Words.{word}
 use Rattle.apf_coding.specs.Meaning.{State, frame_number}
-use Rattle.frame_views.specs.Fields.{value_of, field, part}
+use Rattle.frame_views.specs.Fields.{bytes_value, field, part}
 use Rattle.frame_views.specs.Packets.{header_length}
 use Rattle.policy_state.proofs.FieldsSeen.{number_seen, bytes_seen}
 use Rattle.apf_asm.specs.Saying.{IsReady}
@@ -29,7 +29,7 @@ place_behind_turned k frame le = let small = header_small frame in omega arith
 
 -- ---- the number in one byte
 
-one_value : (xs : List ℕ) (k : ℕ) → k ≡ 1 → get_or xs 0 0 < 256 → value_of (take k xs) < 256
+one_value : (xs : List ℕ) (k : ℕ) → k ≡ 1 → get_or xs 0 0 < 256 → bytes_value (take k xs) < 256
 one_value [] (suc k) e lt = omega arith
 one_value (b ∷ xs) (suc zero) e lt = omega arith
 one_value xs zero e lt = absurd (omega arith)

@@ -18,7 +18,7 @@ use Rattle.apf_asm.proofs.Forms.{IsSound, stands-here, bytes_fit, sound-nil, sou
 use Rattle.apf_asm.proofs.Parts.{fragment-of, fragment-then, fragment-turned}
 use Rattle.policy_state.proofs.Rulings.{has_word}
 use Rattle.policy_state.specs.Ranges.{IsMac}
-use Rattle.ip_rules.specs.Ip4Listing.{header_into, dhcp_items, net_items, destination_items, filtered_items, last_items, ip4_items, IsInRange}
+use Rattle.ip_rules.specs.Ip4Listing.{header_into, dhcp_items, net_items, destination_items, filtered_items, last_items, ip4_items, IsNetInRange}
 use Rattle.ip_rules.proofs.Ip4Ruling.{packet_items}
 use Rattle.ip_rules.proofs.Over.{over_fragment}
 use Rattle.ip_rules.proofs.KeepaliveForm.{fresh-one}
@@ -62,12 +62,12 @@ net_cases l number true low =
     fragment-of l l 11 _ (sound-count (number_of DroppedIpv4BroadcastNet) _ (has_word DroppedIpv4BroadcastNet) (sound-if_end Jeq number Drop _ refl (low refl) sound-nil)) (omega arith) tt (omega arith) (lit≤ tt)
 net_cases l number false low = fragment-of l l 11 [] sound-nil (omega arith) tt (omega arith) (lit≤ tt)
 
-net_fragment : (l : ℕ) (address : Option Address) → IsInRange address → IsFragment l l 11 (net_items address)
+net_fragment : (l : ℕ) (address : Option Address) → IsNetInRange address → IsFragment l l 11 (net_items address)
 unfolding labels
 net_fragment l None fits = fragment-of l l 11 [] sound-nil (omega arith) tt (omega arith) (lit≤ tt)
 net_fragment l (Some address) fits = net_cases l (net_broadcast_of address) (ltb address.prefix 31) (λ e. fits (ltb-true address.prefix 31 e))
 
-destination_fragment : (l : ℕ) (address : Option Address) → IsInRange address → IsFragment l l 39 (destination_items address)
+destination_fragment : (l : ℕ) (address : Option Address) → IsNetInRange address → IsFragment l l 39 (destination_items address)
 unfolding labels
 destination_fragment l address fits =
     let front = load Ldb 30 ∷ fixed And 0 1 0xf0 ∷ count (number_of DroppedIpv4Multicast) ∷ jump_if Jeq 0xe0 (to_end Drop) ∷ load Ldw 30 ∷ count (number_of DroppedIpv4BroadcastAddr) ∷ jump_if Jeq 0xffffffff (to_end Drop) ∷ [] in
@@ -76,7 +76,7 @@ destination_fragment l address fits =
     (sound-byte Ldw 0 30 _ refl (lit< tt) (lit< tt) (sound-count (number_of DroppedIpv4BroadcastAddr) _ (has_word DroppedIpv4BroadcastAddr) (sound-if_end Jeq 0xffffffff Drop _ refl (lit< tt) sound-nil)))))) in
     fragment-then l l l 28 11 front (net_items address) (fragment-of l l 28 front sound (omega arith) tt (omega arith) (lit≤ tt)) (net_fragment l address fits)
 
-filtered_fragment : (on : Bool) (label : ℕ) (mac : List ℕ) (address : Option Address) → (on ≡ true → IsMac mac) → (on ≡ true → IsInRange address) → IsFragment label (label + 1) 100 (filtered_items on label mac address)
+filtered_fragment : (on : Bool) (label : ℕ) (mac : List ℕ) (address : Option Address) → (on ≡ true → IsMac mac) → (on ≡ true → IsNetInRange address) → IsFragment label (label + 1) 100 (filtered_items on label mac address)
 unfolding labels
 filtered_fragment true label mac address is_mac fits =
     fragment-then label (label + 1) (label + 1) 61 39 (dhcp_items label mac) (destination_items address) (dhcp_fragment label mac (is_mac refl)) (destination_fragment (label + 1) address (fits refl))
@@ -95,7 +95,7 @@ last_fragment false l = fragment-of l l 26 (last_items false) (sound-count (numb
 
 -- ---- the whole
 
-module _ (basis : Basis) (from label most : ℕ) (keepalives : List Item) (x : IsFragment from label most keepalives) (is_mac : basis.state.multicast ≡ true → IsMac basis.config.mac) (fits : basis.state.multicast ≡ true → IsInRange basis.state.address) where
+module _ (basis : Basis) (from label most : ℕ) (keepalives : List Item) (x : IsFragment from label most keepalives) (is_mac : basis.state.multicast ≡ true → IsMac basis.config.mac) (fits : basis.state.multicast ≡ true → IsNetInRange basis.state.address) where
   pub packet_fragment : IsFragment from (label + 1) (100 + (most + 26)) (packet_items basis label keepalives)
   packet_fragment =
       fragment-turned from label (label + 1) 100 (most + 26) (filtered_items basis.state.multicast label basis.config.mac basis.state.address) (keepalives ++ last_items basis.state.multicast)

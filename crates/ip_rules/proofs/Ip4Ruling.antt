@@ -28,7 +28,7 @@ use Rattle.policy_state.proofs.FieldsSeen.{number_seen, bytes_seen}
 use Rattle.apf_asm.specs.Building.{fixed, count, jump, jump_if, jump_unless, load, to_end}
 use Rattle.apf_asm.specs.Fragment.{IsPart}
 use Rattle.policy_state.specs.Rulings.{said_of}
-use Rattle.apf_asm.specs.Saying.{Tells}
+use Rattle.apf_asm.specs.Saying.{TellsSaid}
 use Rattle.apf_asm.proofs.Parts.{part-yields}
 use Rattle.apf_asm.proofs.Rules.{Yields, frame_bytes, done, restated, counts, places, adds, masks, recalls_0, recalls_1, reads_byte, reads_half, reads_half_at, reads_word, answers, answers_if, answers_unless, labelled, leaves_if, leaves_unless, skips_if, then_on, told}
 use Rattle.policy_state.proofs.Rulings.{rulings}
@@ -236,7 +236,7 @@ packet_items basis label keepalives = filtered_items basis.state.multicast label
 pub ip4_tells : (basis : Basis) (from label most : ℕ) (keepalives : List Item) → 2 ≤ from → (basis.state.multicast ≡ true → IsMac basis.config.mac)
     → IsPart (λ age frame. said_of (keepalive_answers basis frame)) from label most keepalives
     → stands (label + 1) (packet_items basis label keepalives) ≡ false
-    → Tells (λ age frame. said_of (ip4 basis frame)) (ip4_items basis label keepalives)
+    → TellsSaid (λ age frame. said_of (ip4 basis frame)) (ip4_items basis label keepalives)
 ip4_tells basis from label most keepalives le is_mac x apart =
     let up : from ≤ label = x.form.rises in
     told rulings (λ age frame. ip4 basis frame) _ (λ n frame age m ready.

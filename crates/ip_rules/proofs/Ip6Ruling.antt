@@ -18,7 +18,7 @@ use Rattle.policy_state.specs.Ip6.{next_header, icmp_type, by_destination, all_n
 use Rattle.policy_state.proofs.AskingLaws.{otherwise-silent, otherwise-when, reading-when}
 use Rattle.policy_state.proofs.FieldsSeen.{number_seen, bytes_seen}
 use Rattle.apf_asm.specs.Building.{to_end, load, jump_if, jump}
-use Rattle.apf_asm.specs.Saying.{Tells}
+use Rattle.apf_asm.specs.Saying.{TellsSaid}
 use Rattle.policy_state.specs.Rulings.{said_of}
 use Rattle.apf_asm.proofs.Rules.{Yields, done, restated, counts, places, reads_byte, answers, answers_if, leaves_if, leaves_unless, skips_if, then_on, labelled, told}
 use Rattle.policy_state.proofs.Rulings.{rulings}
@@ -202,7 +202,7 @@ module _ (n : ℕ) (frame : List ℕ) (m : State) where
   yields_by true false next r0 r1 le = filtered_yields (next + 1) next r0 r1 (omega arith) le
   yields_by true true next r0 r1 le = dozing_yields (next + 2) (next + 1) next r0 r1 (two_above next) (omega arith) (omega arith) le
 
-pub ip6_tells : (basis : Basis) (next : ℕ) → 2 ≤ next → Tells (λ age frame. said_of (ip6_header_lines basis frame)) (ip6_items basis next)
+pub ip6_tells : (basis : Basis) (next : ℕ) → 2 ≤ next → TellsSaid (λ age frame. said_of (ip6_header_lines basis frame)) (ip6_items basis next)
 ip6_tells basis next le = told rulings (λ age frame. ip6_header_lines basis frame) _ (λ n frame age m ready.
     restated rulings n frame m m.r0 m.r1 _ _ _ (lines_same basis frame)
     (yields_by n frame m basis.state.multicast basis.state.doze next m.r0 m.r1 le))

@@ -22,7 +22,7 @@ use Rattle.policy_state.proofs.AskingLaws.{reading-when}
 use Rattle.policy_state.proofs.FieldsSeen.{number_seen, bytes_seen}
 use Rattle.apf_asm.specs.Building.{fixed, count, jump, jump_if_r1, jump_unless, load, to_end}
 use Rattle.policy_state.specs.Rulings.{said_of}
-use Rattle.apf_asm.specs.Saying.{Tells}
+use Rattle.apf_asm.specs.Saying.{TellsSaid}
 use Rattle.apf_asm.proofs.Rules.{Yields, above_two, done, restated, counts, places, adds, adds_r1, divides, recalls_0, recalls_1, reads_half_1, reads_byte_known_at, answers, labelled, leaves_if_r1, leaves_unless, told}
 use Rattle.policy_state.proofs.Rulings.{rulings}
 use Rattle.ip_rules.specs.Ip4Listing.{header_into, answer_items}
@@ -125,6 +125,6 @@ module _ (n : ℕ) (frame : List ℕ) (m : State) (slot : get_or m.slots 13 0 �
       (size_yields away 26 r1 le)
       (λ q0 q1. done rulings n frame m q0 q1)))
 
-pub answer_tells : (sent : Keepalive) (away : ℕ) → 2 ≤ away → Tells (λ age frame. said_of (keepalive_answer frame sent)) (answer_items away sent)
+pub answer_tells : (sent : Keepalive) (away : ℕ) → 2 ≤ away → TellsSaid (λ age frame. said_of (keepalive_answer frame sent)) (answer_items away sent)
 answer_tells sent away le = told rulings (λ age frame. keepalive_answer frame sent) _ (λ n frame age m ready.
     answer_yields n frame m (header_slot n frame age m ready) ready.bytes sent away m.r0 m.r1 le)

@@ -16,7 +16,7 @@ use Rattle.policy_state.proofs.FieldsSeen.{number_seen}
 use Rattle.apf_asm.specs.Fragment.{Emits, IsPart, labels}
 use Rattle.policy_state.specs.Rulings.{said_of}
 use Rattle.apf_coding.specs.Said.{Said}
-use Rattle.apf_asm.specs.Saying.{Tells}
+use Rattle.apf_asm.specs.Saying.{TellsSaid}
 use Rattle.apf_asm.proofs.Forms.{sound-nil}
 use Rattle.apf_asm.proofs.Parts.{fragment-of, fresh-above, part-then, part-same, part-yields}
 use Rattle.apf_asm.proofs.Rules.{done, restated, reads_byte, skips_if, told}
@@ -25,6 +25,7 @@ use Rattle.ip_rules.specs.Ip4Listing.{answer_items, slots_items, segment_items, 
 use Rattle.ip_rules.proofs.KeepaliveForm.{answer_fragment}
 use Rattle.ip_rules.proofs.KeepaliveRuling.{answer_tells}
 use Rattle.ip_rules.proofs.Over.{over_fragment}
+use Rattle.policy_state.specs.Weights.{keepalive_weight}
 
 -- no items
 nothing : (next most : ℕ) → IsPart (λ age frame. said_of Silent) next next most []
@@ -57,7 +58,7 @@ slots_part next (Some sent ∷ slots) le =
 -- ---- for TCP alone
 
 segment_tells : (slots : List (Option Keepalive)) (next to most : ℕ) (answers : List Item) → 2 ≤ next → IsPart (λ age frame. said_of (slots_ruling slots frame)) next to most answers
-    → Tells (λ age frame. said_of (reading (protocol frame) (λ p. when (eqb p 6) (slots_ruling slots frame)))) (segment_items to answers)
+    → TellsSaid (λ age frame. said_of (reading (protocol frame) (λ p. when (eqb p 6) (slots_ruling slots frame)))) (segment_items to answers)
 segment_tells slots next to most answers le x =
     let up : next ≤ to = x.form.rises in
     told rulings (λ age frame. reading (protocol frame) (λ p. when (eqb p 6) (slots_ruling slots frame))) _ (λ n frame age m ready.
@@ -69,7 +70,7 @@ segment_tells slots next to most answers le x =
 
 -- where there is a keepalive
 some_part : (next : ℕ) (slots : List (Option Keepalive)) → 2 ≤ next → 1 ≤ count_by is_some slots
-    → IsPart (λ age frame. said_of (reading (protocol frame) (λ p. when (eqb p 6) (slots_ruling slots frame)))) next (next + count_by is_some slots + 1) (80 * count_by is_some slots) (segment_items (next + count_by is_some slots) (slots_items next slots))
+    → IsPart (λ age frame. said_of (reading (protocol frame) (λ p. when (eqb p 6) (slots_ruling slots frame)))) next (next + count_by is_some slots + 1) (keepalive_weight * count_by is_some slots) (segment_items (next + count_by is_some slots) (slots_items next slots))
 some_part next slots le some =
     let k = count_by is_some slots in
     let x = slots_part next slots le in
@@ -77,7 +78,7 @@ some_part next slots le some =
       form = over_fragment Ldb 23 6 next (next + k) (65 * k) (slots_items next slots) refl refl (lit< tt) (lit< tt) x.form;
       tells = segment_tells slots next (next + k) (65 * k) (slots_items next slots) le x;
     } in
-    part-same _ _ next (next + k + 1) (11 + 65 * k) (80 * k) _ (λ age frame. refl) (omega arith) whole
+    part-same _ _ next (next + k + 1) (11 + 65 * k) (keepalive_weight * k) _ (λ age frame. refl) (omega arith) whole
 
 some_counted : (slots : List (Option Keepalive)) → list_any is_some slots ≡ true → 1 ≤ count_by is_some slots
 some_counted [] e = absurd cc
@@ -89,24 +90,24 @@ abbrev tcp_ruling : List (Option Keepalive) → List ℕ → Ruling
 tcp_ruling slots frame = reading (protocol frame) (λ p. when (eqb p 6) (slots_ruling slots frame))
 
 pub none_emitted : (basis : Basis) (next : ℕ) (old : List Item) → list_any is_some basis.state.keepalives ≡ false
-    → Emits (λ age frame. said_of (keepalive_answers basis frame)) (80 * count_by is_some basis.state.keepalives) next next old old
+    → Emits (λ age frame. said_of (keepalive_answers basis frame)) (keepalive_weight * count_by is_some basis.state.keepalives) next next old old
 none_emitted basis next old e = record {
   fragment = [];
   appended = sym (append-nil old);
-  part = part-same _ _ next next 0 (80 * count_by is_some basis.state.keepalives) [] (λ age frame. ap (λ (b : Bool). said_of (when b (tcp_ruling basis.state.keepalives frame))) (sym e)) (omega arith) (nothing next 0);
+  part = part-same _ _ next next 0 (keepalive_weight * count_by is_some basis.state.keepalives) [] (λ age frame. ap (λ (b : Bool). said_of (when b (tcp_ruling basis.state.keepalives frame))) (sym e)) (omega arith) (nothing next 0);
   few = omega arith;
 }
 
 pub some_emitted : (basis : Basis) (next to : ℕ) (old new : List Item) → list_any is_some basis.state.keepalives ≡ true → 2 ≤ next → to ≡ next + count_by is_some basis.state.keepalives → to ≤ next + 8
     → new ≡ old ++ segment_items to (slots_items next basis.state.keepalives)
-    → Emits (λ age frame. said_of (keepalive_answers basis frame)) (80 * count_by is_some basis.state.keepalives) next (to + 1) old new
+    → Emits (λ age frame. said_of (keepalive_answers basis frame)) (keepalive_weight * count_by is_some basis.state.keepalives) next (to + 1) old new
 some_emitted basis next to old new some le e few made =
     let slots = basis.state.keepalives in
     record {
       fragment = segment_items to (slots_items next slots);
       appended = made;
-      part = subst (λ (t : ℕ). IsPart (λ age frame. said_of (keepalive_answers basis frame)) next (t + 1) (80 * count_by is_some slots) (segment_items t (slots_items next slots))) (sym e)
-          (part-same _ _ next (next + count_by is_some slots + 1) _ (80 * count_by is_some slots) _ (λ age frame. ap (λ (b : Bool). said_of (when b (tcp_ruling slots frame))) (sym some)) (omega arith)
+      part = subst (λ (t : ℕ). IsPart (λ age frame. said_of (keepalive_answers basis frame)) next (t + 1) (keepalive_weight * count_by is_some slots) (segment_items t (slots_items next slots))) (sym e)
+          (part-same _ _ next (next + count_by is_some slots + 1) _ (keepalive_weight * count_by is_some slots) _ (λ age frame. ap (λ (b : Bool). said_of (when b (tcp_ruling slots frame))) (sym some)) (omega arith)
           (some_part next slots le (some_counted slots some)));
       few = omega arith;
     }
@@ -114,13 +115,13 @@ some_emitted basis next to old new some le e few made =
 -- by whether there is a keepalive
 by_some : (some : Bool) (basis : Basis) (next : ℕ) (old new : List Item) → list_any is_some basis.state.keepalives ≡ some → 2 ≤ next → cond some (next + count_by is_some basis.state.keepalives + 1) next ≤ next + 9
     → new ≡ old ++ cond some (segment_items (next + count_by is_some basis.state.keepalives) (slots_items next basis.state.keepalives)) []
-    → Emits (λ age frame. said_of (keepalive_answers basis frame)) (80 * count_by is_some basis.state.keepalives) next (cond some (next + count_by is_some basis.state.keepalives + 1) next) old new
+    → Emits (λ age frame. said_of (keepalive_answers basis frame)) (keepalive_weight * count_by is_some basis.state.keepalives) next (cond some (next + count_by is_some basis.state.keepalives + 1) next) old new
 by_some true basis next old new e le few made = some_emitted basis next (next + count_by is_some basis.state.keepalives) old new e le refl (omega (arith, few)) made
 by_some false basis next old new e le few made =
-    subst (λ (xs : List Item). Emits (λ age frame. said_of (keepalive_answers basis frame)) (80 * count_by is_some basis.state.keepalives) next next old xs) (sym (made ∙ append-nil old)) (none_emitted basis next old e)
+    subst (λ (xs : List Item). Emits (λ age frame. said_of (keepalive_answers basis frame)) (keepalive_weight * count_by is_some basis.state.keepalives) next next old xs) (sym (made ∙ append-nil old)) (none_emitted basis next old e)
 
 pub keepalives_emitted : (basis : Basis) (next to : ℕ) (old new : List Item) → to ≡ label_behind next basis.state.keepalives → 2 ≤ next → to ≤ next + 9 → new ≡ old ++ keepalive_items next basis.state.keepalives
-    → Emits (λ age frame. said_of (keepalive_answers basis frame)) (80 * count_by is_some basis.state.keepalives) next to old new
+    → Emits (λ age frame. said_of (keepalive_answers basis frame)) (keepalive_weight * count_by is_some basis.state.keepalives) next to old new
 keepalives_emitted basis next to old new behind le few made =
-    subst (λ (t : ℕ). Emits (λ age frame. said_of (keepalive_answers basis frame)) (80 * count_by is_some basis.state.keepalives) next t old new) (sym behind)
+    subst (λ (t : ℕ). Emits (λ age frame. said_of (keepalive_answers basis frame)) (keepalive_weight * count_by is_some basis.state.keepalives) next t old new) (sym behind)
     (by_some (list_any is_some basis.state.keepalives) basis next old new refl le (omega (arith, few, behind)) made)

@@ -108,6 +108,6 @@ ip4_items basis label keepalives =
 -- ---- what is known of the basis
 
 -- the broadcast address of a net that has one is a number of four bytes
-abbrev pub IsInRange : Option Address → Type 0
-IsInRange None = Unit {0}
-IsInRange (Some address) = address.prefix < 31 → net_broadcast_of address < 2 ^ 32
+abbrev pub IsNetInRange : Option Address → Type 0
+IsNetInRange None = Unit {0}
+IsNetInRange (Some address) = address.prefix < 31 → net_broadcast_of address < 2 ^ 32

@@ -6,7 +6,9 @@ ghost use Rattle.policy_state.specs.Policy.{ip4};
 ghost use Rattle.apf_asm.specs.Fragment.{Emits};
 ghost use Rattle.policy_state.specs.Rulings.{said_of};
 ghost use Rattle.policy_state.specs.Ranges.{IsMac};
-ghost use Rattle.ip_rules.specs.Ip4Listing.{keepalive_items, dhcp_items, net_items, destination_items, filtered_items, first_items, last_items, ip4_items, IsInRange};
+ghost use Rattle.ip_rules.specs.Ip4Listing.{keepalive_items, dhcp_items, net_items, destination_items, filtered_items, first_items, last_items, ip4_items, IsNetInRange};
+ghost use Rattle.policy_state.specs.Rooms.{ip4_room};
+ghost use Rattle.policy_state.specs.Weights.{keepalive_weight};
 
 use crate::keepalives::{add_keepalives, header_into, label_behind};
 use apf_asm::{Item, Target, count, fixed, jump, jump_if, jump_unless, load, place, to_end};
@@ -48,7 +50,7 @@ fn dhcp_items(alloc: Global, away: u32, mac: &[u8; 6]) -> Result<List<Item>, Out
 /// The net's broadcast address, with the destination in R0.
 fn add_net(alloc: Global, address: Option<Address>, out: &mut List<Item>) -> Result<(), OutOfMemory>
     ensures ok { OnOk result (out.new ≡ out.old ++ net_items address) }
-    ensures fits { OnOk result (IsInRange address) }
+    ensures fits { OnOk result (IsNetInRange address) }
     ensures err { OnErr result (out.new ≡ out.old) }
 {
     let Some(own) = address else {
@@ -73,7 +75,7 @@ fn add_destination(
     out: &mut List<Item>,
 ) -> Result<(), OutOfMemory>
     ensures ok { OnOk result (out.new ≡ out.old ++ destination_items address) }
-    ensures fits { OnOk result (IsInRange address) }
+    ensures fits { OnOk result (IsNetInRange address) }
     ensures err { OnErr result (Extends out.old out.new) }
 {
     out.append(List::of(
@@ -101,7 +103,7 @@ fn add_filtered(
 ) -> Result<(), OutOfMemory>
     ensures ok { OnOk result (out.new ≡ out.old ++ filtered_items basis.now.state.multicast away basis.now.config.mac basis.now.state.address) }
     ensures mac { OnOk result (basis.now.state.multicast ≡ true → IsMac basis.now.config.mac) }
-    ensures address { OnOk result (basis.now.state.multicast ≡ true → IsInRange basis.now.state.address) }
+    ensures address { OnOk result (basis.now.state.multicast ≡ true → IsNetInRange basis.now.state.address) }
     ensures err { OnErr result (Extends out.old out.new) }
 {
     if !basis.state.multicast {
@@ -150,7 +152,7 @@ fn add_first(
     requires { label ≤ 2000000 }
     ensures ok { OnOk result (out.new ≡ out.old ++ first_items basis.now label) }
     ensures mac { OnOk result (basis.now.state.multicast ≡ true → IsMac basis.now.config.mac) }
-    ensures address { OnOk result (basis.now.state.multicast ≡ true → IsInRange basis.now.state.address) }
+    ensures address { OnOk result (basis.now.state.multicast ≡ true → IsNetInRange basis.now.state.address) }
     ensures err { OnErr result (Extends out.old out.new) }
 {
     out.append(List::of(
@@ -177,7 +179,7 @@ fn add_ip4(
     requires label { label ≤ 2000000 }
     ensures ok { OnOk result (out.new ≡ out.old ++ ip4_items basis.now label (keepalive_items next basis.now.state.keepalives)) }
     ensures mac { OnOk result (basis.now.state.multicast ≡ true → IsMac basis.now.config.mac) }
-    ensures address { OnOk result (basis.now.state.multicast ≡ true → IsInRange basis.now.state.address) }
+    ensures address { OnOk result (basis.now.state.multicast ≡ true → IsNetInRange basis.now.state.address) }
     ensures err { OnErr result (Extends out.old out.new) }
 {
     add_first(alloc, label, basis, out)?;
@@ -197,7 +199,7 @@ pub fn emit_ip4(
 ) -> Result<(), OutOfMemory>
     requires low { 2 ≤ next.old }
     requires high { next.old ≤ 1000000 }
-    ensures ok { OnOk result (Emits (λ age frame. said_of (ip4 basis.now frame)) (160 + 80 * count_by is_some basis.now.state.keepalives) next.old next.new out.old out.new) }
+    ensures ok { OnOk result (Emits (λ age frame. said_of (ip4 basis.now frame)) (ip4_room + keepalive_weight * count_by is_some basis.now.state.keepalives) next.old next.new out.old out.new) }
     ensures err { OnErr result (out.new ≡ out.old) }
     ensures next { OnErr result (next.new ≡ next.old) }
 {

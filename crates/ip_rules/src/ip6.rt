@@ -6,6 +6,7 @@ ghost use Rattle.policy_state.specs.Ip6.{ip6_header_lines};
 ghost use Rattle.apf_asm.specs.Fragment.{Emits};
 ghost use Rattle.policy_state.specs.Rulings.{said_of};
 ghost use Rattle.ip_rules.specs.Ip6Listing.{destination_items, message_items, unfiltered_items, filtered_items, dozing_items, ip6_items};
+ghost use Rattle.policy_state.specs.Rooms.{ip6_header_room};
 
 use apf_asm::{Item, Target, count, jump, jump_if, jump_unless, load, place, to_end};
 use apf_base::{List, OutOfMemory};
@@ -155,7 +156,7 @@ pub fn emit_ip6(
 ) -> Result<(), OutOfMemory>
     requires low { 2 ≤ next.old }
     requires high { next.old ≤ 1000000 }
-    ensures ok { OnOk result (Emits (λ age frame. said_of (ip6_header_lines basis.now frame)) 124 next.old next.new out.old out.new) }
+    ensures ok { OnOk result (Emits (λ age frame. said_of (ip6_header_lines basis.now frame)) ip6_header_room next.old next.new out.old out.new) }
     ensures err { OnErr result (out.new ≡ out.old) }
     ensures next { OnErr result (next.new ≡ next.old) }
 {

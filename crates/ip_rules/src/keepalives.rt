@@ -6,6 +6,7 @@ ghost use Rattle.policy_state.specs.Ip4.{keepalive_answers};
 ghost use Rattle.apf_asm.specs.Fragment.{Emits};
 ghost use Rattle.policy_state.specs.Rulings.{said_of};
 ghost use Rattle.ip_rules.specs.Ip4Listing.{header_into, answer_items, slots_items, segment_items, keepalive_items, label_behind};
+ghost use Rattle.policy_state.specs.Weights.{keepalive_weight};
 
 use apf_asm::{
     Item, Target, count, fixed, jump, jump_if, jump_if_r1, jump_unless, load, place, to_end,
@@ -136,7 +137,7 @@ pub fn emit_keepalives(
 ) -> Result<(), OutOfMemory>
     requires low { 2 ≤ next.old }
     requires high { next.old ≤ 1000000 }
-    ensures ok { OnOk result (Emits (λ age frame. said_of (keepalive_answers basis.now frame)) (80 * count_by is_some basis.now.state.keepalives) next.old next.new out.old out.new) }
+    ensures ok { OnOk result (Emits (λ age frame. said_of (keepalive_answers basis.now frame)) (keepalive_weight * count_by is_some basis.now.state.keepalives) next.old next.new out.old out.new) }
     ensures few { OnOk result (next.new ≤ next.old + 9) }
     ensures err { OnErr result (out.new ≡ out.old) }
     ensures next { OnErr result (next.new ≡ next.old) }

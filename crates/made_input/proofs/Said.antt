@@ -14,13 +14,14 @@ use Rattle.hex.specs.Hex.{encode_with, IsBytes}
 use Rattle.plain_text.proofs.Numerals.{own}
 use Rattle.plain_text.specs.Lines.{lines_of}
 use Rattle.script_text.specs.ScriptLines.{is_skipped, numbered, event_line, switch_word, lines_saying, IsEvent}
-use Rattle.script_text.specs.Scripts.{IsSound, Says}
+use Rattle.script_text.specs.Scripts.{IsSoundScript, Says}
 use Rattle.script_text.proofs.AddressWords.{lacks, digits_lack}
 use Rattle.script_text.proofs.DigitWords.{bytes-cons}
 use Rattle.script_text.proofs.Grammar.{Chain, chain_in_order}
 use Rattle.made_input.specs.MadeScripts.{opening, is_odd, doze_second, doze_line, made_lines, ended, made_script, doze_event, made_events, made_contents}
 use Rattle.made_input.proofs.Counting.{pieces_short}
 use Rattle.made_input.proofs.SaidLines.{made_script-is}
+use Rattle.apf_base.specs.Limits.{script_limit}
 
 -- ---- the lines of a text
 
@@ -134,7 +135,7 @@ events_rise : (latest a m : ℕ) → latest ≤ doze_second a → Chain latest (
 events_rise latest a zero le = tt
 events_rise latest a (suc m) le = (le, events_rise (doze_second a) (a + 1) m (omega arith))
 
-sound : (n : ℕ) → n ≤ 100000 → IsSound (made_contents n)
+sound : (n : ℕ) → n ≤ 100000 → IsSoundScript (made_contents n)
 unfolding made_contents
 sound n le = record {
   mac = record { six = refl; bytes = mac_fits };
@@ -172,7 +173,7 @@ doze_short j le =
     let third = length-append (codes "at " ++ decimal t ++ words) (10 ∷ []) in
     omega arith
 
-pub script_short : (n : ℕ) → n ≤ 100000 → length (made_script n) ≤ 1048576
+pub script_short : (n : ℕ) → n ≤ 100000 → length (made_script n) ≤ script_limit
 script_short n le =
     let f : ℕ → List ℕ = λ j. ended (doze_line j) in
     let front : length (flat_map ended opening) ≤ 1000 = lit≤ tt in

@@ -7,12 +7,13 @@ use Rattle.pcap_files.specs.declared.kinds.Stamp.{Stamp}
 use Rattle.pcap_files.specs.declared.kinds.Placed.{Placed}
 use Rattle.pcap_files.specs.declared.kinds.Records.{Records}
 use Rattle.pcap_files.specs.Capture.{capture, frame_of, frames}
-use Rattle.pcap_files.specs.Writing.{head_bytes, record_bytes, IsInRange}
+use Rattle.pcap_files.specs.Writing.{head_bytes, record_bytes, IsStampInRange}
 use Rattle.pcap_files.proofs.Adding.{head_reads_back, put_reads_back}
 use Rattle.made_input.specs.MadeFrames.{made_frame}
 use Rattle.made_input.specs.MadeCaptures.{made_kind, made_stamp, made_record, made_capture}
 use Rattle.made_input.proofs.Counting.{numbers-more, map_more, pieces_short}
 use Rattle.made_input.proofs.Records.{frame_short}
+use Rattle.apf_base.specs.Limits.{capture_limit}
 
 -- ---- sizes
 
@@ -45,7 +46,7 @@ capture-more n =
     ap (λ (js : List ℕ). head_bytes made_kind ++ flat_map made_record js) (numbers-more 1 n (suc n) (omega arith))
     ∙ sym (flat_map_more made_record (head_bytes made_kind) (range_with_len 1 n) (suc n))
 
-in_range : (k : ℕ) → k ≤ 100000 → IsInRange (made_stamp k)
+in_range : (k : ℕ) → k ≤ 100000 → IsStampInRange (made_stamp k)
 in_range k le = let short = frame_short k in record { sec = omega arith; fraction = omega arith; original = omega arith }
 
 whole_none : IsWhole 0 (made_capture 0)
@@ -83,5 +84,5 @@ whole (suc n) le =
     let size = capture_size (suc n) in
     whole_more n (made_capture n) (made_capture (suc n)) le (capture-more n) (omega arith) (whole n (omega arith))
 
-pub capture_short : (n : ℕ) → n ≤ 100000 → length (made_capture n) ≤ 67108864
+pub capture_short : (n : ℕ) → n ≤ 100000 → length (made_capture n) ≤ capture_limit
 capture_short n le = let size = capture_size n in omega arith

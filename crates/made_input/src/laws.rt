@@ -9,12 +9,13 @@ ghost use Rattle.script_text.specs.ScriptReading.{script_answer};
 ghost use Rattle.made_input.specs.MadeScripts.{made_script, made_contents};
 ghost use Rattle.made_input.specs.MadeFrames.{made_frame};
 ghost use Rattle.made_input.specs.MadeCaptures.{made_kind, made_stamp, made_capture};
+ghost use Rattle.apf_base.specs.Limits.{capture_limit, script_limit};
 
 /// Each made script is a script, says what its definition says, and is no longer than a script may be that is read.
 pub fn made_scripts_are_scripts()
     ensures says { (n : ℕ) → n ≤ 100000 → Says (made_script n) (made_contents n) }
     ensures answered { (n : ℕ) → n ≤ 100000 → script_answer (made_script n) ≡ Ok (made_contents n) }
-    ensures short { (n : ℕ) → n ≤ 100000 → length (made_script n) ≤ 1048576 }
+    ensures short { (n : ℕ) → n ≤ 100000 → length (made_script n) ≤ script_limit }
 {}
 
 /// Each made capture is a capture without a fault, whose frames are the made frames from the first on, each with its
@@ -24,5 +25,5 @@ pub fn made_captures_are_whole()
     ensures end { (n : ℕ) → n ≤ 100000 → (capture (made_capture n)).end ≡ None }
     ensures frames { (n : ℕ) → n ≤ 100000 → frames (made_capture n) ≡ map made_frame (range_with_len 1 n) }
     ensures stamps { (n : ℕ) → n ≤ 100000 → map (λ (placed : Placed). placed.stamp) (capture (made_capture n)).list ≡ map made_stamp (range_with_len 1 n) }
-    ensures short { (n : ℕ) → n ≤ 100000 → length (made_capture n) ≤ 67108864 }
+    ensures short { (n : ℕ) → n ≤ 100000 → length (made_capture n) ≤ capture_limit }
 {}

@@ -14,14 +14,15 @@ use Rattle.pcap_files.specs.declared.kinds.Records.{Records}
 use Rattle.pcap_files.specs.declared.fault.PcapError.{PcapError}
 use Rattle.pcap_files.specs.declared.fault.PcapError.TheVariants.{Version, Cut, TooLong, Length}
 use Rattle.pcap_files.specs.Capture.{number_at, kind_by, kind_of, has_version, of_link, of_kind, head_of, record_at, records_from, captured, capture, frame_of, frames, IsWithin}
-use Rattle.pcap_files.specs.Writing.{bytes_of, head_bytes, record_bytes, faultless, IsInRange, IsAdded}
+use Rattle.pcap_files.specs.Writing.{bytes_of, head_bytes, record_bytes, faultless, IsStampInRange, IsAdded}
 use Rattle.pcap_files.proofs.Heads.{IsAccepted, head-accepted}
 use Rattle.pcap_files.proofs.Walk.{before, whole, one_more, within_of}
+use Rattle.apf_base.specs.Limits.{frame_limit}
 
 -- ---- numbers
 
 -- bytes behind those of a number don't change it
-number-append : (big : Bool) (n at : ℕ) (xs ys : List ℕ) → at + n ≤ length xs → number_at big n at (xs ++ ys) ≡ number_at big n at xs
+pub number-append : (big : Bool) (n at : ℕ) (xs ys : List ℕ) → at + n ≤ length xs → number_at big n at (xs ++ ys) ≡ number_at big n at xs
 number-append true n at xs ys le = ap (big_number n) (drop-append-le at xs ys (omega arith)) ∙ big_from-append n (drop at xs) ys (omega (arith, length-drop at xs))
 number-append false n at xs ys le = ap (little_number n) (drop-append-le at xs ys (omega arith)) ∙ little_from-append n (drop at xs) ys (omega (arith, length-drop at xs))
 
@@ -41,7 +42,7 @@ number-spelled false n x at bytes front rest e place lt =
 
 -- ---- the file header
 
-not_short : (n k : ℕ) → k ≤ n → nat_lt n k ≡ false
+pub not_short : (n k : ℕ) → k ≤ n → nat_lt n k ≡ false
 not_short n k le = grind (arith, nat_tests)
 
 passed : {A E : Type 0} (b : Bool) (e : E) (later : Result A E) → b ≡ false → cond b (Err e) later ≡ later
@@ -85,7 +86,7 @@ head_reads_back kind old new e none = ap capture (e ∙ ap (λ (front : List ℕ
 
 -- ---- a record
 
-abbrev made_of : ℕ → ℕ → ℕ → ℕ → ℕ → Placed
+abbrev pub made_of : ℕ → ℕ → ℕ → ℕ → ℕ → Placed
 made_of at len sec fraction original = record { stamp = record { sec = sec; fraction = fraction; original = original }; at = at; len = len }
 
 all_passed : (a b c d : Bool) (e f g h : PcapError) (x : Placed) → a ≡ false → b ≡ false → c ≡ false → d ≡ false → cond a (Err e) (cond b (Err f) (cond c (Err g) (cond d (Err h) (Ok x)))) ≡ Ok x
@@ -97,15 +98,15 @@ same_record at l m s t f g o p a b c d = rw (a, b, c, d) refl
 -- by the numbers that stand there
 record-made : (big : Bool) (at : ℕ) (bytes : List ℕ) (len sec fraction original : ℕ)
     → number_at big 4 8 bytes ≡ len → number_at big 4 0 bytes ≡ sec → number_at big 4 4 bytes ≡ fraction → number_at big 4 12 bytes ≡ original
-    → len ≤ 262144 → at + 16 + len ≤ 4294967295 → 16 + len ≤ length bytes → record_at big at bytes ≡ Ok (made_of at len sec fraction original)
+    → len ≤ frame_limit → at + 16 + len ≤ 4294967295 → 16 + len ≤ length bytes → record_at big at bytes ≡ Ok (made_of at len sec fraction original)
 record-made big at bytes len sec fraction original is s f o short inside fits =
     let n = number_at big 4 8 bytes in
-    all_passed (nat_lt (length bytes) 16) (nat_lt 262144 n) (nat_lt 4294967295 (at + 16 + n)) (nat_lt (length bytes) (16 + n)) (Cut at) (TooLong at n) Length (Cut at) _
-    (not_short (length bytes) 16 (omega arith)) (not_short 262144 n (omega arith)) (not_short 4294967295 (at + 16 + n) (omega arith)) (not_short (length bytes) (16 + n) (omega arith))
+    all_passed (nat_lt (length bytes) 16) (nat_lt frame_limit n) (nat_lt 4294967295 (at + 16 + n)) (nat_lt (length bytes) (16 + n)) (Cut at) (TooLong at n) Length (Cut at) _
+    (not_short (length bytes) 16 (omega arith)) (not_short frame_limit n (omega arith)) (not_short 4294967295 (at + 16 + n) (omega arith)) (not_short (length bytes) (16 + n) (omega arith))
     ∙ ap Ok (same_record at n len _ sec _ fraction _ original is s f o)
 
 -- bytes behind a whole record don't change it
-record-append : (big : Bool) (at : ℕ) (xs ys : List ℕ) (placed : Placed) → record_at big at xs ≡ Ok placed → record_at big at (xs ++ ys) ≡ Ok placed
+pub record-append : (big : Bool) (at : ℕ) (xs ys : List ℕ) (placed : Placed) → record_at big at xs ≡ Ok placed → record_at big at (xs ++ ys) ≡ Ok placed
 record-append big at xs ys placed e =
     let fits = whole big at xs placed e in
     let head : 16 ≤ length xs = fits.head in
@@ -155,7 +156,7 @@ four-second p q r s t = simp append_assoc
 abbrev placed_of : Stamp → ℕ → ℕ → Placed
 placed_of stamp at len = record { stamp = stamp; at = at; len = len }
 
-module _ (big : Bool) (stamp : Stamp) (frame : List ℕ) (short : length frame ≤ 262144) where
+module _ (big : Bool) (stamp : Stamp) (frame : List ℕ) (short : length frame ≤ frame_limit) where
   abbrev a : List ℕ
   a = bytes_of big 4 stamp.sec
 
@@ -186,7 +187,7 @@ module _ (big : Bool) (stamp : Stamp) (frame : List ℕ) (short : length frame �
   length-spelled : length spelled ≡ 16 + length frame
   length-spelled = omega (arith, length-append (a ++ b ++ c ++ d) frame, length-abcd)
 
-  one : (at : ℕ) → IsInRange stamp → at + 16 + length frame ≤ 4294967295 → record_at big at spelled ≡ Ok (placed_of stamp at (length frame))
+  one : (at : ℕ) → IsStampInRange stamp → at + 16 + length frame ≤ 4294967295 → record_at big at spelled ≡ Ok (placed_of stamp at (length frame))
   one at range inside =
       let fits : length frame < 256 ^ 4 = omega arith in
       record-made big at spelled (length frame) stamp.sec stamp.fraction stamp.original
@@ -197,7 +198,7 @@ module _ (big : Bool) (stamp : Stamp) (frame : List ℕ) (short : length frame �
       short inside (omega (arith, length-spelled))
 
   -- it is all that is found
-  alone : (at : ℕ) → IsInRange stamp → at + 16 + length frame ≤ 4294967295 → records_from big 0 at spelled ≡ (placed_of stamp at (length frame) ∷ [], None)
+  alone : (at : ℕ) → IsStampInRange stamp → at + 16 + length frame ≤ 4294967295 → records_from big 0 at spelled ≡ (placed_of stamp at (length frame) ∷ [], None)
   alone at range inside =
       let end : drop (16 + length frame) spelled ≡ [] = ap (λ (n : ℕ). drop n spelled) (sym length-spelled) ∙ drop-length spelled in
       one_more big at spelled (placed_of stamp at (length frame)) (one at range inside)
@@ -240,7 +241,7 @@ capture-is : (bytes : List ℕ) (kind : Kind) → head_of bytes ≡ Ok kind → 
 unfolding capture
 capture-is bytes kind e = ap (λ (r : Result Kind PcapError). captured r bytes) e
 
-module _ (kind : Kind) (stamp : Stamp) (frame old : List ℕ) (short : length frame ≤ 262144) (range : IsInRange stamp) where
+module _ (kind : Kind) (stamp : Stamp) (frame old : List ℕ) (short : length frame ≤ frame_limit) (range : IsStampInRange stamp) where
   abbrev more : List ℕ
   more = record_bytes kind.big stamp frame
 

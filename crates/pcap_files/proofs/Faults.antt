@@ -7,6 +7,7 @@ use Rattle.pcap_files.specs.declared.kinds.Records.{Records}
 use Rattle.pcap_files.specs.declared.fault.PcapError.{PcapError}
 use Rattle.pcap_files.specs.declared.fault.PcapError.TheVariants.{Magic, Version, Link, Cut, TooLong, Length, Read, OutOfMemory}
 use Rattle.pcap_files.specs.Capture.{number_at, kind_of, has_version, of_link, of_kind, head_of, record_at, records_from, captured, capture}
+use Rattle.apf_base.specs.Limits.{frame_limit}
 
 abbrev IsOfBytes : PcapError → Type 0
 IsOfBytes Read = ⊥
@@ -33,7 +34,7 @@ found_told : (big : Bool) (at byte : ℕ) (bytes : List ℕ) → ((skip : ℕ) �
     → IsTold (elim r as (λ _. List Placed × Option PcapError) [ Err fault ↦ ([], Some fault) | Ok placed ↦ (let more = records_from big (15 + placed.len) (at + 1) bytes in (placed ∷ more.0, more.1)) ]).1
 found_told big at byte bytes rest (Err fault) e =
     let len = number_at big 4 8 (byte ∷ bytes) in
-    record_told (nat_lt (length (byte ∷ bytes)) 16) (nat_lt 262144 len) (nat_lt 4294967295 (at + 16 + len)) (nat_lt (length (byte ∷ bytes)) (16 + len)) at len _ fault e
+    record_told (nat_lt (length (byte ∷ bytes)) 16) (nat_lt frame_limit len) (nat_lt 4294967295 (at + 16 + len)) (nat_lt (length (byte ∷ bytes)) (16 + len)) at len _ fault e
 found_told big at byte bytes rest (Ok placed) e = rest (15 + placed.len)
 
 records_told : (big : Bool) (skip at : ℕ) (bytes : List ℕ) → IsTold (records_from big skip at bytes).1

@@ -1,11 +1,12 @@
 -- What is written to a capture file.
-use Rattle.std.specs.Prelude.{◌≡◌, ℕ, ◌+◌, ◌<◌, ◌^◌, Bool, true, false, List, [], ◌∷◌, ◌++◌, length, None, Some}
+use Rattle.std.specs.Prelude.{◌≡◌, ℕ, ◌<◌, ◌^◌, Bool, true, false, List, [], ◌∷◌, ◌++◌, length, None, Some}
 use Rattle.byteorder.specs.Endian.{big_bytes, little_bytes}
 use Rattle.pcap_files.specs.declared.kinds.Kind.{Kind}
 use Rattle.pcap_files.specs.declared.kinds.Stamp.{Stamp}
 use Rattle.pcap_files.specs.declared.kinds.Placed.{Placed}
 use Rattle.pcap_files.specs.declared.kinds.Records.{Records}
 use Rattle.pcap_files.specs.Capture.{magic_of, capture, frames}
+use Rattle.apf_base.specs.Limits.{frame_limit}
 
 -- the n bytes of a number
 abbrev pub bytes_of : Bool → ℕ → ℕ → List ℕ
@@ -17,7 +18,7 @@ abbrev pub head_bytes : Kind → List ℕ
 head_bytes kind =
     bytes_of kind.big 4 (magic_of kind.nano)
     ++ bytes_of kind.big 2 2 ++ bytes_of kind.big 2 4
-    ++ bytes_of kind.big 4 0 ++ bytes_of kind.big 4 0 ++ bytes_of kind.big 4 262144
+    ++ bytes_of kind.big 4 0 ++ bytes_of kind.big 4 0 ++ bytes_of kind.big 4 frame_limit
     ++ bytes_of kind.big 4 1
 
 -- a record
@@ -27,7 +28,7 @@ record_bytes big stamp frame =
     ++ frame
 
 -- each number of the stamp has four bytes
-pub record IsInRange (stamp : Stamp) : Type 0 where
+pub record IsStampInRange (stamp : Stamp) : Type 0 where
   pub sec : stamp.sec < 2 ^ 32
   pub fraction : stamp.fraction < 2 ^ 32
   pub original : stamp.original < 2 ^ 32

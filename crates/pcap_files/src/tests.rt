@@ -1,7 +1,10 @@
-//! Files that are refused, each for its first fault, and files that are written and read.
+//! Files that are refused, each for its first fault, whole and a record at a time, and files that are written and read.
 
-use crate::{Kind, PcapError, Stamp, head, put, records};
-use apf_base::List;
+ghost use Rattle.std.specs.Prelude.{◌<◌, ◌≤◌, length};
+
+use crate::reading::promised;
+use crate::{Capture, Kind, PcapError, Placed, Records, Stamp, head, put, records};
+use apf_base::{List, MemSource, OutOfMemory, Source, read_all};
 use std::alloc::Global;
 use std::test::Fail;
 
@@ -134,5 +137,151 @@ fn written_files_have_their_bytes(rt: HostRuntime) -> Result<(), Fail> {
     assert!(rt; file.as_slice().starts_with(&MICRO));
     assert!(rt; file.as_slice().ends_with(&RECORDS[..31]));
     assert_eq!(rt; file.len(), 55);
+    Ok(())
+}
+
+/// The frames of the two records, one behind the other, and where each ends.
+const FRAMES: [u8; 18] = [0, 0, 0, 0, 0, 0, 0, 0, 0, 0, 0, 0, 0, 0, 0, 1, 2, 3];
+
+const ENDS: [usize; 3] = [0, 15, 18];
+
+/// What a reader gives, up to a hundred records, as `records` tells it. Their frames are added to the list.
+fn read_through<S: Source>(
+    alloc: Global,
+    src: &mut S,
+    frames: &mut List<u8>,
+) -> Result<Records, OutOfMemory> {
+    let mut list = List::new(alloc);
+    let mut reader = match Capture::start(src) {
+        Ok(reader) => reader,
+        Err(fault) => {
+            return Ok(Records {
+                kind: None,
+                list,
+                end: Some(fault),
+            });
+        }
+    };
+    let kind = Some(reader.kind());
+    let mut frame = List::new(alloc);
+    let mut at = 24u32;
+    let mut end = None;
+    for _ in 0..100 {
+        if !reader.is_live() {
+            break;
+        }
+        match reader.next(src, &mut frame) {
+            Ok(Some(stamp)) => {
+                let len = frame.len() as u32;
+                list.push(Placed { stamp, at, len })?;
+                frames.extend(frame.as_slice())?;
+                at = at.wrapping_add(16).wrapping_add(len);
+            }
+            Ok(None) => {}
+            Err(fault) => end = Some(fault),
+        }
+    }
+    Ok(Records { kind, list, end })
+}
+
+/// Whether a reader gives what `records` tells of the file, and the frames of that many records. The source gives at
+/// most so many bytes a read.
+fn both_agree(alloc: Global, file: List<u8>, most: usize) -> Result<bool, Fail>
+    requires short { length file ≤ 74 }
+    requires most { 0 < most }
+{
+    let found = records(alloc, file.as_slice())?;
+    let mut frames = List::new(alloc);
+    let mut source = MemSource::new(file, most, List::new(alloc));
+    let given = read_through(alloc, &mut source, &mut frames)?;
+    let Some(end) = ENDS.get(found.list.len()) else {
+        return Ok(false);
+    };
+    Ok(
+        (given.kind, given.end) == (found.kind, found.end)
+            && given.list.as_slice() == found.list.as_slice()
+            && FRAMES.starts_with(frames.as_slice())
+            && frames.len() == *end,
+    )
+}
+
+#[test]
+fn both_readers_agree_on_every_row(rt: HostRuntime) -> Result<(), Fail> {
+    for (number, row) in ROWS.iter().enumerate() {
+        for most in [1usize, 3, 74] {
+            let file = file_of(rt.alloc(), row)?;
+            assert!(rt; file.len() <= 74 && most > 0, "row {number}");
+            assert!(rt;
+                both_agree(rt.alloc(), file, most)?,
+                "row {number}, {most} a read"
+            );
+        }
+    }
+    Ok(())
+}
+
+/// The file of two records.
+static WHOLE: Row = (MICRO, V2_4, ETHERNET, &RECORDS, 74, 2, None);
+
+#[test]
+fn both_readers_agree_on_every_cut(rt: HostRuntime) -> Result<(), Fail> {
+    for len in 0..75usize {
+        let mut file = file_of(rt.alloc(), &WHOLE)?;
+        file.truncate(len);
+        assert!(rt; file.len() <= 74);
+        assert!(rt; both_agree(rt.alloc(), file, 7)?, "cut at {len}");
+    }
+    Ok(())
+}
+
+#[test]
+fn a_failing_read_ends_a_reader(rt: HostRuntime) -> Result<(), Fail> {
+    // The first read is the file header, then two are a record; the sixth finds the end.
+    for (number, found) in [(1u64, 0usize), (2, 0), (3, 0), (4, 1), (5, 1), (6, 2)] {
+        let fail = List::of(rt.alloc(), [number])?;
+        let mut source = MemSource::new(file_of(rt.alloc(), &WHOLE)?, 74, fail);
+        let mut frames = List::new(rt.alloc());
+        let given = read_through(rt.alloc(), &mut source, &mut frames)?;
+        assert_eq!(rt;
+            (given.list.len(), given.end),
+            (found, Some(PcapError::Read)),
+            "read {number}"
+        );
+    }
+    Ok(())
+}
+
+#[test]
+fn a_record_is_taken_and_no_more(rt: HostRuntime) -> Result<(), Fail> {
+    let alloc = rt.alloc();
+    let mut source = MemSource::new(file_of(alloc, &WHOLE)?, 7, List::new(alloc));
+    let mut reader = Capture::start(&mut source)?;
+    let mut frame = List::of(alloc, [9])?;
+    let stamp = reader.next(&mut source, &mut frame)?;
+    let first = Stamp {
+        sec: 1000,
+        fraction: 7,
+        original: 15,
+    };
+    assert_eq!(rt; (stamp, reader.is_live()), (Some(first), true));
+    assert_eq!(rt; *frame.as_slice(), FRAMES[..15]);
+    let mut rest = List::new(alloc);
+    assert_eq!(rt; read_all(alloc, &mut source, 19, &mut rest), Ok(()));
+    assert_eq!(rt; *rest.as_slice(), RECORDS[31..]);
+    Ok(())
+}
+
+/// Offsets of a record of 19 bytes, and whether its header is refused there.
+static PLACES: [(u32, Option<PcapError>); 2] = [
+    (4_294_967_276, None),
+    (4_294_967_277, Some(PcapError::Length)),
+];
+
+#[test]
+fn no_record_ends_behind_the_last_offset(rt: HostRuntime) -> Result<(), Fail> {
+    for (at, refused) in PLACES.iter() {
+        let answer = promised(false, *at, &RECORDS[31..47]).err();
+        assert_eq!(rt; answer, *refused, "record at {at}");
+    }
     Ok(())
 }

@@ -2,18 +2,16 @@
 
 ghost use Rattle.std.specs.Prelude.{◌≡◌, [], ◌≤◌, ◌++◌, length, IfOk, OnOk, OnErr, Some, None};
 ghost use Rattle.pcap_files.specs.Capture.{capture};
-ghost use Rattle.pcap_files.specs.Writing.{head_bytes, record_bytes, faultless, IsInRange, IsAdded};
+ghost use Rattle.pcap_files.specs.Writing.{head_bytes, record_bytes, faultless, IsStampInRange, IsAdded};
+ghost use Rattle.apf_base.specs.Limits.{frame_limit};
 
 use crate::kinds::{Kind, Stamp};
 use crate::numbers::{add_half, add_word};
 use crate::reading::{ETHERNET, MICROSECONDS, NANOSECONDS};
-use apf_base::{List, OutOfMemory};
+use apf_base::{FRAME_LIMIT, List, OutOfMemory};
 use std::alloc::Global;
 
-/// The snapshot length that is written: the most bytes of a frame.
-const SNAPSHOT: u32 = 262144;
-
-/// A file header.
+/// A file header. Its snapshot length is the most bytes of a frame.
 fn head_bytes(alloc: Global, kind: Kind) -> Result<List<u8>, OutOfMemory>
     ensures { IfOk result (λ bytes. bytes ≡ head_bytes kind) }
 {
@@ -24,7 +22,7 @@ fn head_bytes(alloc: Global, kind: Kind) -> Result<List<u8>, OutOfMemory>
     add_half(kind.big, 4, &mut bytes)?;
     add_word(kind.big, 0, &mut bytes)?;
     add_word(kind.big, 0, &mut bytes)?;
-    add_word(kind.big, SNAPSHOT, &mut bytes)?;
+    add_word(kind.big, FRAME_LIMIT, &mut bytes)?;
     add_word(kind.big, ETHERNET, &mut bytes)?;
     Ok(bytes)
 }
@@ -36,9 +34,9 @@ fn record_bytes(
     stamp: Stamp,
     frame: &[u8],
 ) -> Result<List<u8>, OutOfMemory>
-    requires { length frame.now ≤ 262144 }
+    requires { length frame.now ≤ frame_limit }
     ensures bytes { IfOk result (λ bytes. bytes ≡ record_bytes big stamp frame.now) }
-    ensures range { IfOk result (λ bytes. IsInRange stamp) }
+    ensures range { IfOk result (λ bytes. IsStampInRange stamp) }
 {
     let mut bytes = List::new(alloc);
     add_word(big, stamp.sec, &mut bytes)?;
@@ -71,7 +69,7 @@ pub fn put(
     frame: &[u8],
     out: &mut List<u8>,
 ) -> Result<(), OutOfMemory>
-    requires { length frame.now ≤ 262144 }
+    requires { length frame.now ≤ frame_limit }
     ensures ok { OnOk result (out.new ≡ out.old ++ record_bytes kind.big stamp frame.now) }
     // A capture of this kind without a fault has one record more, with this stamp and this frame.
     ensures reads_back { OnOk result ((capture out.old).kind ≡ Some kind → (capture out.old).end ≡ None → length out.new ≤ 4294967295 → IsAdded kind stamp frame.now out.old out.new) }

@@ -11,7 +11,7 @@ use Rattle.std.proofs.lemmas.Bool.{or_parts, eqb-true, eqb-false, leb-true, ltb-
 use Rattle.std.proofs.lemmas.Fmt.{decimal_digit, decimal_nonempty, first_decimal, digits_decimal, digits_value-decimal, decimal-digits_value, IsAscii-from_digits}
 use Rattle.std.proofs.lemmas.Str.{IsUtf8-from_ascii}
 use Rattle.std.proofs.lemmas.Str.Parse.{IsNumeralModel, numerals_by_value, parse_digits}
-use Rattle.plain_text.specs.Numbers.{Writes, is_numeral, at_most, number_of}
+use Rattle.plain_text.specs.Numbers.{WritesNumber, is_numeral, at_most, number_within}
 
 -- the words of `parse` for digits
 pub own : IsNumeralModel (λ ds. list_all is_ascii_digit ds ≡ true) (digits_value 10)
@@ -73,8 +73,8 @@ front_of zero small e = ap length (decimal_digit 0 (omega arith))
 front_of (suc n) small e = let first = first_decimal (suc n) (omega arith) small in absurd (omega arith)
 
 -- a word that is a number is the number's text
-pub number_of_is : (limit : ℕ) (word : List ℕ) (n : ℕ) → limit < 2 ^ 64 → number_of limit word ≡ Some n → Writes limit word n
-unfolding number_of
+pub number_of_is : (limit : ℕ) (word : List ℕ) (n : ℕ) → limit < 2 ^ 64 → number_within limit word ≡ Some n → WritesNumber limit word n
+unfolding number_within
 number_of_is limit word n small e =
     let g = if_some (is_numeral word) (at_most limit (digits_value 10 word)) n e in
     let b = at_most_is limit (digits_value 10 word) n g.1 in
@@ -82,13 +82,13 @@ number_of_is limit word n small e =
     let fits : digits_value 10 word < 2 ^ 64 = let le = b.0 in let same = b.1 in omega arith in
     (b.0, sym (decimal-digits_value own word p.digits p.some p.front fits) ∙ ap decimal b.1)
 
-pub found_from : (limit : ℕ) (word : List ℕ) (o : Option ℕ) → limit < 2 ^ 64 → o ≡ number_of limit word → IfSome o (λ n. Writes limit word n)
+pub found_from : (limit : ℕ) (word : List ℕ) (o : Option ℕ) → limit < 2 ^ 64 → o ≡ number_within limit word → IfSome o (λ n. WritesNumber limit word n)
 found_from limit word (Some n) small e = number_of_is limit word n small (sym e)
 found_from limit word None small e = tt
 
 -- the text of a number is that number
-pub number_of-decimal : (limit n : ℕ) → limit < 2 ^ 64 → n ≤ limit → number_of limit (decimal n) ≡ Some n
-unfolding number_of
+pub number_of-decimal : (limit n : ℕ) → limit < 2 ^ 64 → n ≤ limit → number_within limit (decimal n) ≡ Some n
+unfolding number_within
 number_of-decimal limit n bound le =
     let small : n < 2 ^ 64 = omega arith in
     let some = decimal_nonempty n small in
@@ -104,19 +104,19 @@ lowered true high limit n le e = elim (cases_lt high n) [
 ]
 lowered false high limit n le e = refl
 
-pub lower-none : (high limit : ℕ) (word : List ℕ) → limit ≤ high → number_of high word ≡ None → number_of limit word ≡ None
-unfolding number_of
+pub lower-none : (high limit : ℕ) (word : List ℕ) → limit ≤ high → number_within high word ≡ None → number_within limit word ≡ None
+unfolding number_within
 lower-none high limit word le e = lowered (is_numeral word) high limit (digits_value 10 word) le e
 
-pub lower-some : (high limit : ℕ) (word : List ℕ) (n : ℕ) → number_of high word ≡ Some n → n ≤ limit → number_of limit word ≡ Some n
-unfolding number_of
+pub lower-some : (high limit : ℕ) (word : List ℕ) (n : ℕ) → number_within high word ≡ Some n → n ≤ limit → number_within limit word ≡ Some n
+unfolding number_within
 lower-some high limit word n e le =
     let g = if_some (is_numeral word) (at_most high (digits_value 10 word)) n e in
     let b = at_most_is high (digits_value 10 word) n g.1 in
     rw (g.0, b.1) (at_most-le limit n le)
 
-pub lower-over : (high limit : ℕ) (word : List ℕ) (n : ℕ) → number_of high word ≡ Some n → limit < n → number_of limit word ≡ None
-unfolding number_of
+pub lower-over : (high limit : ℕ) (word : List ℕ) (n : ℕ) → number_within high word ≡ Some n → limit < n → number_within limit word ≡ None
+unfolding number_within
 lower-over high limit word n e over =
     let g = if_some (is_numeral word) (at_most high (digits_value 10 word)) n e in
     let b = at_most_is high (digits_value 10 word) n g.1 in
@@ -128,8 +128,8 @@ value_cases : {E : Type 0} (r : Result ℕ E) (P : Type 0) (n : ℕ) → P → O
 value_cases (Ok x) P n p h = rw (h.1, at_most-le 4294967295 n (let lt = h.0.1 in omega arith)) refl
 value_cases (Err e) P n p h = elim (cases_lt n (2 ^ 32)) [ inl lt ↦ absurd (h (p, lt)) | inr le ↦ rw (lt-leb n 4294967295 (omega arith)) refl ]
 
-pub parsed : {E : Type 0} (word bs : List ℕ) (r : Result ℕ E) → is_numeral word ≡ true → bs ≡ word → ParsesUnsigned 32 10 bs r → result_ok r ≡ number_of 4294967295 word
-unfolding number_of
+pub parsed : {E : Type 0} (word bs : List ℕ) (r : Result ℕ E) → is_numeral word ≡ true → bs ≡ word → ParsesUnsigned 32 10 bs r → result_ok r ≡ number_within 4294967295 word
+unfolding number_within
 parsed word bs r e same h =
     let p = numeral_parts word e in
     let read = parse_digits own 32 word r (rw same at h) p.digits in
@@ -139,8 +139,8 @@ parsed word bs r e same h =
 pub numeral_is_text : (word : List ℕ) → is_numeral word ≡ true → IsUtf8 word
 numeral_is_text word e = IsUtf8-from_ascii word (IsAscii-from_digits word (own.to word (numeral_parts word e).digits))
 
-pub not_numeral : (limit : ℕ) (word : List ℕ) → is_numeral word ≡ false → number_of limit word ≡ None
-unfolding number_of
+pub not_numeral : (limit : ℕ) (word : List ℕ) → is_numeral word ≡ false → number_within limit word ≡ None
+unfolding number_within
 not_numeral limit word e = rw e refl
 
 -- a text that was checked has the bytes that were

@@ -6,8 +6,8 @@ use Rattle.std.specs.Char.{is_ascii_digit}
 use Rattle.std.specs.Str.Parse.{digits_value}
 
 -- the word is the decimal writing of a number up to a limit
-abbrev pub Writes : ℕ → List ℕ → ℕ → Type 0
-Writes limit word n = (n ≤ limit) × (word ≡ decimal n)
+abbrev pub WritesNumber : ℕ → List ℕ → ℕ → Type 0
+WritesNumber limit word n = (n ≤ limit) × (word ≡ decimal n)
 
 -- ---- by functions that compute
 
@@ -20,5 +20,5 @@ abbrev pub at_most : ℕ → ℕ → Option ℕ
 at_most limit n = if nat_le n limit then Some n else None
 
 -- the number up to a limit that digits spell
-unfoldable pub number_of : ℕ → List ℕ → Option ℕ
-number_of limit word = if is_numeral word then at_most limit (digits_value 10 word) else None
+unfoldable pub number_within : ℕ → List ℕ → Option ℕ
+number_within limit word = if is_numeral word then at_most limit (digits_value 10 word) else None

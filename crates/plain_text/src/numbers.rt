@@ -3,7 +3,7 @@
 ghost use Rattle.std.specs.Prelude.{◌≡◌, ◌≤◌, ℕ, IfSome, Some};
 ghost use Rattle.std.specs.Char.{is_ascii_digit};
 ghost use Rattle.std.specs.List.{list_all};
-ghost use Rattle.plain_text.specs.Numbers.{Writes, is_numeral, number_of};
+ghost use Rattle.plain_text.specs.Numbers.{WritesNumber, is_numeral, number_within};
 
 fn are_digits(word: &[u8]) -> bool
     ensures { result ≡ list_all is_ascii_digit word.now }
@@ -22,7 +22,7 @@ fn is_numeral(word: &[u8]) -> bool
 }
 
 fn number(word: &[u8]) -> Option<u32>
-    ensures { result ≡ number_of 4294967295 word.now }
+    ensures { result ≡ number_within 4294967295 word.now }
 {
     if !is_numeral(word) {
         return None;
@@ -31,7 +31,7 @@ fn number(word: &[u8]) -> Option<u32>
 }
 
 fn number_in(word: &[u8], limit: u32) -> Option<u32>
-    ensures { result ≡ number_of limit word.now }
+    ensures { result ≡ number_within limit word.now }
 {
     match number(word) {
         Some(n) if n <= limit => Some(n),
@@ -42,10 +42,10 @@ fn number_in(word: &[u8], limit: u32) -> Option<u32>
 /// The number that a word writes, where that is at most the limit: decimal digits, without a sign and without leading
 /// zeros.
 pub fn read_decimal(word: &[u8], limit: u32) -> Option<u32>
-    ensures found { IfSome result (λ n. Writes limit word.now n) }
-    ensures only { (n : ℕ) → Writes limit word.now n → result ≡ Some n }
+    ensures found { IfSome result (λ n. WritesNumber limit word.now n) }
+    ensures only { (n : ℕ) → WritesNumber limit word.now n → result ≡ Some n }
     // By a function that computes.
-    ensures exact { result ≡ number_of limit word.now }
+    ensures exact { result ≡ number_within limit word.now }
 {
     number_in(word, limit)
 }

@@ -59,12 +59,12 @@ is_same state (KeepaliveRemove slot) = false
 
 -- ---- what the call says and leaves
 
-abbrev pub answer_of : Bool → Result FilterState StateError → Result Changed StateError
-answer_of same (Ok state) = Ok (if same then No else Yes)
-answer_of same (Err refusal) = Err refusal
+abbrev pub apply_answer : Bool → Result FilterState StateError → Result Changed StateError
+apply_answer same (Ok state) = Ok (if same then No else Yes)
+apply_answer same (Err refusal) = Err refusal
 
 abbrev pub answer_to : FilterState → Update → Result Changed StateError
-answer_to state update = answer_of (is_same state update) (after state update)
+answer_to state update = apply_answer (is_same state update) (after state update)
 
 -- a refusal leaves the old state
 abbrev pub state_or : FilterState → Result FilterState StateError → FilterState

@@ -3,9 +3,12 @@ pub mod Effects
 pub mod Ethernet
 pub mod Ip4
 pub mod Ip6
+pub mod Limits
 pub mod Policy
 pub mod Ranges
 pub mod Records
+pub mod Rooms
 pub mod Rulings
 pub mod States
+pub mod Weights
 pub mod Whole

@@ -31,7 +31,7 @@ verdict_of Short = Pass
 verdict_of Missing = Pass
 verdict_of (Says verdict counter) = verdict
 
-abbrev pub counter_of : Fate → Option Counter
-counter_of Short = None
-counter_of Missing = None
-counter_of (Says verdict counter) = Some counter
+abbrev pub counter_of_fate : Fate → Option Counter
+counter_of_fate Short = None
+counter_of_fate Missing = None
+counter_of_fate (Says verdict counter) = Some counter

@@ -1,6 +1,7 @@
 //! The configuration of a filter.
 
 ghost use Rattle.std.specs.Prelude.{◌≤◌, length};
+ghost use Rattle.policy_state.specs.Limits.{capacity_least, capacity_most, denied_most};
 
 use apf_base::List;
 
@@ -17,7 +18,7 @@ pub struct Config {
     pub drop_802_3: bool,
     /// The ethertypes whose frames are dropped, at most 32.
     pub deny: List<u16>,
-    pub ghost least: { 128 ≤ capacity },
-    pub ghost most: { capacity ≤ 8192 },
-    pub ghost few: { length deny ≤ 32 },
+    pub ghost least: { capacity_least ≤ capacity },
+    pub ghost most: { capacity ≤ capacity_most },
+    pub ghost few: { length deny ≤ denied_most },
 }

@@ -3,7 +3,7 @@
 ghost use Rattle.std.specs.Prelude.{◌≡◌};
 ghost use Rattle.policy_state.specs.Policy.{others, questions};
 ghost use Rattle.policy_state.specs.Asking.{first_of};
-ghost use Rattle.policy_state.specs.Whole.{policy, fate_of, verdict_of, counter_of};
+ghost use Rattle.policy_state.specs.Whole.{policy, fate_of, verdict_of, counter_of_fate};
 
 use crate::Basis;
 use crate::arp::arp;
@@ -51,7 +51,7 @@ fn first_answer(basis: &Basis, age: u32, frame: &[u8]) -> Ruling
 /// The verdict and the counter of an answer.
 fn settled(answer: Ruling) -> (Verdict, Option<Counter>)
     ensures verdict { result.0 ≡ verdict_of (fate_of answer) }
-    ensures counter { result.1 ≡ counter_of (fate_of answer) }
+    ensures counter { result.1 ≡ counter_of_fate (fate_of answer) }
 {
     match answer {
         Ruling::Says(verdict, counter) => (verdict, Some(counter)),
@@ -64,7 +64,7 @@ fn settled(answer: Ruling) -> (Verdict, Option<Counter>)
 /// There is no counter exactly where the frame has at most 14 bytes, or lacks a field that a question reads. It then passes.
 pub fn decide(basis: &Basis, age: u32, frame: &[u8]) -> (Verdict, Option<Counter>)
     ensures verdict { result.0 ≡ verdict_of (policy basis.now age frame.now) }
-    ensures counter { result.1 ≡ counter_of (policy basis.now age frame.now) }
+    ensures counter { result.1 ≡ counter_of_fate (policy basis.now age frame.now) }
 {
     if frame.len() <= 14 {
         return (Verdict::Pass, None);

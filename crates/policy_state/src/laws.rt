@@ -3,7 +3,7 @@
 ghost use Rattle.std.specs.Prelude.{◌≡◌, ◌≢◌, ◌<◌, ◌≤◌, ℕ, List, length, Option, Some};
 ghost use Rattle.apf_coding.specs.declared.machine.Verdict.TheVariants.{Pass, Drop};
 ghost use Rattle.data_counters.specs.declared.counter.Counter.{Counter};
-ghost use Rattle.data_counters.specs.Counters.{number_of};
+ghost use Rattle.data_counters.specs.Counters.{number_of, counter_count};
 ghost use Rattle.policy_state.specs.declared.basis.Basis.{Basis};
 ghost use Rattle.policy_state.specs.declared.ruling.Ruling.TheVariants.{Silent};
 ghost use Rattle.policy_state.specs.Asking.{first_of};
@@ -20,7 +20,7 @@ pub fn questions_are_answered()
 /// A counter tells the verdict: those of frames that pass are 2 to 12, and those of frames that are dropped 13 to 27.
 pub fn counters_tell_verdicts()
     ensures pass { (basis : Basis) (age : ℕ) (frame : List ℕ) (c : Counter) → policy basis age frame ≡ Says Pass c → (2 ≤ number_of c) × (number_of c ≤ 12) }
-    ensures drop { (basis : Basis) (age : ℕ) (frame : List ℕ) (c : Counter) → policy basis age frame ≡ Says Drop c → (13 ≤ number_of c) × (number_of c ≤ 27) }
+    ensures drop { (basis : Basis) (age : ℕ) (frame : List ℕ) (c : Counter) → policy basis age frame ≡ Says Drop c → (13 ≤ number_of c) × (number_of c ≤ counter_count) }
 {}
 
 /// The question on ARP is silent exactly on frames with another ethertype, of those that have one.

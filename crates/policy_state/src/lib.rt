@@ -12,6 +12,7 @@ mod deciding;
 mod ip4;
 mod ip6;
 mod laws;
+mod limits;
 mod link;
 mod records;
 mod ruling;
@@ -26,6 +27,10 @@ pub use config::Config;
 pub use deciding::decide;
 pub use laws::{
     arp_answers_its_frames, counters_tell_verdicts, ip4_answers_its_frames, questions_are_answered,
+};
+pub use limits::{
+    BASE_WEIGHT, CAPACITY_LEAST, CAPACITY_MOST, COMPARISON_WEIGHT, DENIED_MOST, DENIED_WEIGHT,
+    KEEPALIVE_WEIGHT, LIFETIME_WEIGHT, RECORD_WEIGHT, RECORDS_MOST, numbers_are_defined,
 };
 pub use sharing::types_are_shared;
 pub use state::{Address, FilterState, Keepalive};

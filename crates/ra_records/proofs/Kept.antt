@@ -4,13 +4,13 @@ use Rattle.std.specs.Prelude.{◌&&◌, ◌||◌, ◌==◌, nat_lt, slice_index,
 use Rattle.std.specs.List.{list_all}
 use Rattle.std.proofs.lemmas.Slice.Eq.{bytes_eq-Decides}
 use Rattle.std.proofs.lemmas.Bool.{and_parts}
-use Rattle.frame_views.specs.Fields.{value_of, field}
+use Rattle.frame_views.specs.Fields.{bytes_value, field}
 use Rattle.ra_records.specs.declared.span.Span.{Span}
 use Rattle.ra_records.specs.declared.span.RaError.{RaError}
 use Rattle.ra_records.specs.declared.span.RaError.TheVariants.{NotRa, Short, TooLong, CutOption, ZeroOption, ShortOption}
 use Rattle.ra_records.specs.Masks.{span, lies_in, is_masked, same_outside, between, is_equal, IsRising}
-use Rattle.ra_records.specs.Options.{lifetimes_of, size_of, option_refusal, with_front, unless_refused, options_from}
-use Rattle.ra_records.specs.Advert.{router, holds, candidate, lifetimes_in, masks, is_same, IsSound}
+use Rattle.ra_records.specs.Options.{lifetimes_of, size_of, option_refusal, with_lifetimes, unless_refused, options_from}
+use Rattle.ra_records.specs.Advert.{router, holds, candidate, lifetimes_in, masks, is_same, IsSound, advertisement_limit, options_at}
 use Rattle.ra_records.proofs.Sections.{before, above, same-sections}
 use Rattle.ra_records.proofs.Rising.{masks_rise}
 use Rattle.ra_records.proofs.Walk.{whole, rise_more, good, sound}
@@ -41,7 +41,7 @@ refusal_of at len kind units =
 refusal-is : (at : ℕ) (bytes : List ℕ) → option_refusal at bytes ≡ refusal_of at (length bytes) (get_or bytes 0 0) (get_or bytes 1 0)
 refusal-is at bytes = refl
 
-parts_of : (o : Option RaError) (front found : List Span) (read : Result (List Span) RaError) → unless_refused o (with_front front read) ≡ Ok found → (o ≡ None) × ((more : List Span) × ((read ≡ Ok more) × (front ++ more ≡ found)))
+parts_of : (o : Option RaError) (front found : List Span) (read : Result (List Span) RaError) → unless_refused o (with_lifetimes front read) ≡ Ok found → (o ≡ None) × ((more : List Span) × ((read ≡ Ok more) × (front ++ more ≡ found)))
 parts_of (Some e) front found read h = absurd cc
 parts_of None front found (Err e) h = absurd cc
 parts_of None front found (Ok more) h = (refl, (more, (refl, cc)))
@@ -98,10 +98,10 @@ options_kept all zero at (x ∷ xs) (y ∷ ys) found l e h le r =
     let rest = options_kept all (8 * slice_index ys 0 - 1) (at + 1) xs ys split.1.0 (omega arith) parts.1
     (λ i low. h i (omega arith) ∙ ap (is_masked i) (sym split.1.1.1) ∙ earlier (y == 3) ((y == 24) || (y == 25) || (y == 31)) at (size_of (y ∷ ys)) i split.1.0 is.some long (omega (arith, e1)))
     (omega (arith, is.some, is.fits)) split.1.1.0 in
-    ap (λ (o : Option RaError). unless_refused o (with_front (lifetimes_of x at) (options_from (8 * slice_index xs 0 - 1) (at + 1) xs))) none
-    ∙ ap (λ (k : ℕ). with_front (lifetimes_of k at) (options_from (8 * slice_index xs 0 - 1) (at + 1) xs)) first
-    ∙ ap (λ (n : ℕ). with_front (lifetimes_of y at) (options_from (8 * n - 1) (at + 1) xs)) second
-    ∙ ap (with_front (lifetimes_of y at)) rest
+    ap (λ (o : Option RaError). unless_refused o (with_lifetimes (lifetimes_of x at) (options_from (8 * slice_index xs 0 - 1) (at + 1) xs))) none
+    ∙ ap (λ (k : ℕ). with_lifetimes (lifetimes_of k at) (options_from (8 * slice_index xs 0 - 1) (at + 1) xs)) first
+    ∙ ap (λ (n : ℕ). with_lifetimes (lifetimes_of y at) (options_from (8 * n - 1) (at + 1) xs)) second
+    ∙ ap (with_lifetimes (lifetimes_of y at)) rest
     ∙ ap (λ (f : List Span). Ok f) split.1.1.1
 
 -- ---- the fields that make an advertisement
@@ -134,10 +134,10 @@ fields_kept : (F B : List ℕ) (at width : ℕ) → length F ≡ length B → ta
 unfolding field
 fields_kept F B at width l e =
     let k : at + width - at ≡ width = omega arith in
-    ap (λ (n : ℕ). cond (nat_lt n (at + width)) None (Some (value_of (take (at + width - at) (drop at F))))) l
-    ∙ ap (λ (w : ℕ). cond (nat_lt (length B) (at + width)) None (Some (value_of (take w (drop at F))))) k
-    ∙ ap (λ (zs : List ℕ). cond (nat_lt (length B) (at + width)) None (Some (value_of zs))) e
-    ∙ ap (λ (w : ℕ). cond (nat_lt (length B) (at + width)) None (Some (value_of (take w (drop at B))))) (sym k)
+    ap (λ (n : ℕ). cond (nat_lt n (at + width)) None (Some (bytes_value (take (at + width - at) (drop at F))))) l
+    ∙ ap (λ (w : ℕ). cond (nat_lt (length B) (at + width)) None (Some (bytes_value (take w (drop at F))))) k
+    ∙ ap (λ (zs : List ℕ). cond (nat_lt (length B) (at + width)) None (Some (bytes_value zs))) e
+    ∙ ap (λ (w : ℕ). cond (nat_lt (length B) (at + width)) None (Some (bytes_value (take w (drop at B))))) (sym k)
 
 equal_bytes : (xs ys : List ℕ) → bytes_eq xs ys ≡ true → xs ≡ ys
 equal_bytes xs ys e = (bytes_eq-Decides xs ys).0 e
@@ -160,17 +160,17 @@ abbrev Read : Type 0
 Read = Result (List Span) RaError
 
 kept_cases : (a b c : Bool) (read other : Read) (found : List Span) → ((more : List Span) → read ≡ Ok more → router ∷ more ≡ found → other ≡ Ok more)
-    → cond a (cond b (Err Short) (cond c (Err TooLong) (with_front (router ∷ []) read))) (Err NotRa) ≡ Ok found
-    → cond a (cond b (Err Short) (cond c (Err TooLong) (with_front (router ∷ []) other))) (Err NotRa) ≡ Ok found
+    → cond a (cond b (Err Short) (cond c (Err TooLong) (with_lifetimes (router ∷ []) read))) (Err NotRa) ≡ Ok found
+    → cond a (cond b (Err Short) (cond c (Err TooLong) (with_lifetimes (router ∷ []) other))) (Err NotRa) ≡ Ok found
 kept_cases false b c read other found more h = absurd cc
 kept_cases true true c read other found more h = absurd cc
 kept_cases true false true read other found more h = absurd cc
 kept_cases true false false (Err e) other found more h = absurd cc
 kept_cases true false false (Ok ls) other found more h =
     let e : router ∷ ls ≡ found = cc in
-    ap (with_front (router ∷ [])) (more ls refl e) ∙ ap (λ (f : List Span). Ok f) e
+    ap (with_lifetimes (router ∷ [])) (more ls refl e) ∙ ap (λ (f : List Span). Ok f) e
 
-behind_masks : (i : ℕ) (more : List Span) → 70 ≤ i → is_masked i (masks (router ∷ more)) ≡ is_masked i more
+behind_masks : (i : ℕ) (more : List Span) → options_at ≤ i → is_masked i (masks (router ∷ more)) ≡ is_masked i more
 behind_masks i more le =
     ap (λ (b : Bool). b || (lies_in i (span 56 2) || (lies_in i router || is_masked i more))) (above (span 15 3) i (omega arith))
     ∙ ap (λ (b : Bool). b || (lies_in i router || is_masked i more)) (above (span 56 2) i (omega arith))
@@ -181,12 +181,12 @@ lifetimes_kept bytes frame lifetimes r e =
     let h = sound bytes lifetimes r in
     let parts = and_parts (length frame == length bytes) (same_outside (masks lifetimes) 0 frame bytes) e in
     let l : length frame ≡ length bytes = eqb-true (length frame) (length bytes) parts.0 in
-    let sizes : length (drop 70 frame) ≡ length (drop 70 bytes) = omega (arith, length-drop 70 frame, length-drop 70 bytes) in
-    ap (λ (a : Bool). cond a (cond (nat_lt (length frame) 70) (Err Short) (cond (nat_lt 1514 (length frame)) (Err TooLong) (with_front (router ∷ []) (options_from 0 70 (drop 70 frame))))) (Err NotRa))
+    let sizes : length (drop options_at frame) ≡ length (drop options_at bytes) = omega (arith, length-drop options_at frame, length-drop options_at bytes) in
+    ap (λ (a : Bool). cond a (cond (nat_lt (length frame) options_at) (Err Short) (cond (nat_lt advertisement_limit (length frame)) (Err TooLong) (with_lifetimes (router ∷ []) (options_from 0 options_at (drop options_at frame))))) (Err NotRa))
     (candidate_kept bytes frame lifetimes h l parts.1)
-    ∙ ap (λ (n : ℕ). cond (candidate bytes) (cond (nat_lt n 70) (Err Short) (cond (nat_lt 1514 n) (Err TooLong) (with_front (router ∷ []) (options_from 0 70 (drop 70 frame))))) (Err NotRa)) l
-    ∙ kept_cases (candidate bytes) (nat_lt (length bytes) 70) (nat_lt 1514 (length bytes)) (options_from 0 70 (drop 70 bytes)) (options_from 0 70 (drop 70 frame)) lifetimes
+    ∙ ap (λ (n : ℕ). cond (candidate bytes) (cond (nat_lt n options_at) (Err Short) (cond (nat_lt advertisement_limit n) (Err TooLong) (with_lifetimes (router ∷ []) (options_from 0 options_at (drop options_at frame))))) (Err NotRa)) l
+    ∙ kept_cases (candidate bytes) (nat_lt (length bytes) options_at) (nat_lt advertisement_limit (length bytes)) (options_from 0 options_at (drop options_at bytes)) (options_from 0 options_at (drop options_at frame)) lifetimes
     (λ more read whole.
-    options_kept (masks lifetimes) 0 70 (drop 70 frame) (drop 70 bytes) more sizes (same_drop (masks lifetimes) 70 0 frame bytes parts.1 l)
+    options_kept (masks lifetimes) 0 options_at (drop options_at frame) (drop options_at bytes) more sizes (same_drop (masks lifetimes) options_at 0 frame bytes parts.1 l)
     (λ i le. ap (λ (ls : List Span). is_masked i (masks ls)) (sym whole) ∙ behind_masks i more (omega arith)) (omega arith) read)
     r

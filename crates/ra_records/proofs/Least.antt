@@ -6,7 +6,7 @@ use Rattle.std.proofs.Math.Nat.{min-le_left, min-le_right, min-eq_left, min-eq_r
 use Rattle.std.proofs.lemmas.Bool.{cases_lt}
 use Rattle.std.proofs.lemmas.Nat.{mul-add-lt}
 use Rattle.std.proofs.lemmas.List.Elements.{All-from_recursion, All-head, All-tail, All-take, All-drop, Contains-append_right}
-use Rattle.frame_views.specs.Fields.{value_of, field}
+use Rattle.frame_views.specs.Fields.{bytes_value, field}
 use Rattle.ra_records.specs.declared.span.Span.{Span}
 use Rattle.ra_records.specs.Masks.{IsNumber}
 use Rattle.ra_records.specs.Advert.{Advert, number_in, least_in, least, advert}
@@ -18,7 +18,7 @@ use Rattle.ra_records.proofs.Tiles.{options_of_lifetimes}
 -- the number of a range that lies in the frame
 pub number_seen : (frame : List ℕ) (s : Span) → s.at + s.len ≤ length frame → field frame s.at s.len ≡ Some (number_in frame s)
 unfolding field
-number_seen frame s le = ap (λ (b : Bool). cond b None (Some (value_of (slice_range frame s.at (s.at + s.len))))) (le-ltb (length frame) (s.at + s.len) le)
+number_seen frame s le = ap (λ (b : Bool). cond b None (Some (bytes_value (slice_range frame s.at (s.at + s.len))))) (le-ltb (length frame) (s.at + s.len) le)
 
 -- no number of four bytes is greater than the one that stands for none
 pub least_bound : (frame : List ℕ) (spans : List Span) → least_in frame spans ≤ 2 ^ 32 - 1
@@ -46,12 +46,12 @@ least-below r = All-from_recursion (λ s. least r ≤ number_in r.bytes s) r.lif
 -- ---- it is one of the numbers
 
 -- bytes spell a number that fits them
-value_fits : (bytes : List ℕ) → All (λ b. b < 256) bytes → value_of bytes < 256 ^ length bytes
+value_fits : (bytes : List ℕ) → All (λ b. b < 256) bytes → bytes_value bytes < 256 ^ length bytes
 value_fits [] h = lit≤ tt
 value_fits (b ∷ bytes) h =
     let front : b < 256 = All-head (λ b. b < 256) b bytes h in
-    let rest : value_of bytes < 256 ^ length bytes = value_fits bytes (All-tail (λ b. b < 256) b bytes h) in
-    omega (arith, mul-add-lt b (256 ^ length bytes) (value_of bytes) 256 front rest, pow-suc 256 (length bytes))
+    let rest : bytes_value bytes < 256 ^ length bytes = value_fits bytes (All-tail (λ b. b < 256) b bytes h) in
+    omega (arith, mul-add-lt b (256 ^ length bytes) (bytes_value bytes) 256 front rest, pow-suc 256 (length bytes))
 
 -- four bytes at most spell a number of four bytes
 number_fits : (frame : List ℕ) (s : Span) → All (λ b. b < 256) frame → s.len ≤ 4 → number_in frame s < 2 ^ 32

@@ -5,14 +5,14 @@ use Rattle.std.specs.List.{list_all}
 use Rattle.ra_records.specs.declared.span.Span.{Span}
 use Rattle.ra_records.specs.declared.span.RaError.{RaError}
 use Rattle.ra_records.specs.declared.span.RaError.TheVariants.{OutOfMemory}
-use Rattle.ra_records.specs.Masks.{IsWithin, IsNumber, is_equal, between, same_outside}
+use Rattle.ra_records.specs.Masks.{IsSpanWithin, IsNumber, is_equal, between, same_outside}
 use Rattle.ra_records.specs.Advert.{Advert, masks, sections_of, is_same, same, IsSound, IsHeld, lifetimes_in, advert, seen_at, least_in}
 use Rattle.ra_records.proofs.Sections.{same-sections}
 use Rattle.ra_records.proofs.Rising.{sections_within, masks_rise, lifetimes_are_numbers}
 use Rattle.ra_records.proofs.Walk.{sound}
 use Rattle.ra_records.proofs.Kept.{lifetimes_kept}
 
-pub within_of : (bytes b : List ℕ) (lifetimes ss s : List Span) → IsSound bytes lifetimes → ss ≡ sections_of bytes lifetimes → b ≡ bytes → s ≡ ss → All (IsWithin (length b)) s
+pub within_of : (bytes b : List ℕ) (lifetimes ss s : List Span) → IsSound bytes lifetimes → ss ≡ sections_of bytes lifetimes → b ≡ bytes → s ≡ ss → All (IsSpanWithin (length b)) s
 within_of bytes b lifetimes ss s h e f g = rw (f, g, e) (sections_within bytes lifetimes h)
 
 pub numbers_of : (bytes : List ℕ) (lifetimes s : List Span) → IsSound bytes lifetimes → s ≡ lifetimes → All (IsNumber (length bytes)) s

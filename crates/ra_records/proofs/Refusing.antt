@@ -4,8 +4,8 @@ use Rattle.std.specs.Prelude.{◌≢◌, ◌==◌, ◌&&◌, nat_lt, slice_index
 use Rattle.ra_records.specs.declared.span.Span.{Span}
 use Rattle.ra_records.specs.declared.span.RaError.{RaError}
 use Rattle.ra_records.specs.declared.span.RaError.TheVariants.{NotRa, Short, TooLong, CutOption, ZeroOption, ShortOption, OutOfMemory}
-use Rattle.ra_records.specs.Options.{lifetimes_of, size_of, option_refusal, with_front, unless_refused, options_from}
-use Rattle.ra_records.specs.Advert.{router, candidate, lifetimes_in, seen_at, advert}
+use Rattle.ra_records.specs.Options.{lifetimes_of, size_of, option_refusal, with_lifetimes, unless_refused, options_from}
+use Rattle.ra_records.specs.Advert.{router, candidate, lifetimes_in, seen_at, advert, advertisement_limit, options_at}
 
 abbrev Ranges : Type 0
 Ranges = Result (List Span) RaError
@@ -17,7 +17,7 @@ of_an_option false false true d at h = absurd cc
 of_an_option false false false true at h = absurd cc
 of_an_option false false false false at h = absurd cc
 
-behind_one : (o : Option RaError) (front : List Span) (read : Ranges) → o ≢ Some OutOfMemory → read ≢ Err OutOfMemory → unless_refused o (with_front front read) ≢ Err OutOfMemory
+behind_one : (o : Option RaError) (front : List Span) (read : Ranges) → o ≢ Some OutOfMemory → read ≢ Err OutOfMemory → unless_refused o (with_lifetimes front read) ≢ Err OutOfMemory
 behind_one (Some e) front read h k is = h (let x : e ≡ OutOfMemory = cc in ap (λ (e : RaError). Some e) x)
 behind_one None front (Ok found) h k is = absurd cc
 behind_one None front (Err e) h k is = k (let x : e ≡ OutOfMemory = cc in ap (λ (e : RaError). Err e) x)
@@ -30,7 +30,7 @@ of_options zero at (byte ∷ bytes) h =
     (of_an_option (nat_lt (length (byte ∷ bytes)) 2) (slice_index (byte ∷ bytes) 1 == 0) (nat_lt (length (byte ∷ bytes)) (size_of (byte ∷ bytes))) ((slice_index (byte ∷ bytes) 0 == 3) && nat_lt (size_of (byte ∷ bytes)) 16) at)
     (of_options (8 * slice_index bytes 0 - 1) (at + 1) bytes) h
 
-of_lengths : (a b c : Bool) (read : Ranges) → read ≢ Err OutOfMemory → cond a (cond b (Err Short) (cond c (Err TooLong) (with_front (router ∷ []) read))) (Err NotRa) ≢ Err OutOfMemory
+of_lengths : (a b c : Bool) (read : Ranges) → read ≢ Err OutOfMemory → cond a (cond b (Err Short) (cond c (Err TooLong) (with_lifetimes (router ∷ []) read))) (Err NotRa) ≢ Err OutOfMemory
 of_lengths false b c read k h = absurd cc
 of_lengths true true c read k h = absurd cc
 of_lengths true false true read k h = absurd cc
@@ -44,4 +44,4 @@ pub refusals : (frame : List ℕ) (now : ℕ) → advert frame now ≢ Err OutOf
 unfolding advert
 refusals frame now =
     of_a_record frame now (lifetimes_in frame)
-    (of_lengths (candidate frame) (nat_lt (length frame) 70) (nat_lt 1514 (length frame)) (options_from 0 70 (drop 70 frame)) (of_options 0 70 (drop 70 frame)))
+    (of_lengths (candidate frame) (nat_lt (length frame) options_at) (nat_lt advertisement_limit (length frame)) (options_from 0 options_at (drop options_at frame)) (of_options 0 options_at (drop options_at frame)))

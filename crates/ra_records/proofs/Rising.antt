@@ -5,7 +5,7 @@ use Rattle.std.specs.List.{list_all, AllByRecursion}
 use Rattle.std.proofs.lemmas.List.Elements.{All-from_recursion}
 use Rattle.std.proofs.lemmas.Bool.{and_parts}
 use Rattle.ra_records.specs.declared.span.Span.{Span}
-use Rattle.ra_records.specs.Masks.{span, stretch, between, IsRising, IsWithin, IsNumber}
+use Rattle.ra_records.specs.Masks.{span, stretch, between, IsRising, IsSpanWithin, IsNumber}
 use Rattle.ra_records.specs.Advert.{masks, sections_of, is_number, IsSound}
 
 pub rising_end : (from : ℕ) (ms : List Span) (end : ℕ) → IsRising from ms end → from ≤ end
@@ -22,17 +22,17 @@ rising_at (m ∷ ms) (suc i) from end lt h =
 
 -- ---- the sections lie within the bytes
 
-stretch_within : (t : Bool) (from to end : ℕ) → nat_lt from to ≡ t → from ≤ to → to ≤ end → AllByRecursion (IsWithin end) (cond t (span from (to - from) ∷ []) [])
+stretch_within : (t : Bool) (from to end : ℕ) → nat_lt from to ≡ t → from ≤ to → to ≤ end → AllByRecursion (IsSpanWithin end) (cond t (span from (to - from) ∷ []) [])
 stretch_within true from to end e le fits =
     let lt : from < to = ltb-true from to e in
     (record { some = omega arith; within = omega arith }, tt)
 stretch_within false from to end e le fits = tt
 
-both : (xs ys : List Span) (end : ℕ) → AllByRecursion (IsWithin end) xs → AllByRecursion (IsWithin end) ys → AllByRecursion (IsWithin end) (xs ++ ys)
+both : (xs ys : List Span) (end : ℕ) → AllByRecursion (IsSpanWithin end) xs → AllByRecursion (IsSpanWithin end) ys → AllByRecursion (IsSpanWithin end) (xs ++ ys)
 both [] ys end h k = k
 both (x ∷ xs) ys end h k = (h.0, both xs ys end h.1 k)
 
-pub between_within : (ms : List Span) (from end : ℕ) → IsRising from ms end → AllByRecursion (IsWithin end) (between from ms end)
+pub between_within : (ms : List Span) (from end : ℕ) → IsRising from ms end → AllByRecursion (IsSpanWithin end) (between from ms end)
 between_within [] from end h = stretch_within (nat_lt from end) from end end refl h (omega arith)
 between_within (m ∷ ms) from end h =
     both (stretch from m.at) (between (m.at + m.len) ms end) end
@@ -42,8 +42,8 @@ between_within (m ∷ ms) from end h =
 pub masks_rise : (bytes : List ℕ) (lifetimes : List Span) → IsSound bytes lifetimes → IsRising 0 (masks lifetimes) (length bytes)
 masks_rise bytes lifetimes h = (omega arith, (omega arith, h.rising))
 
-pub sections_within : (bytes : List ℕ) (lifetimes : List Span) → IsSound bytes lifetimes → All (IsWithin (length bytes)) (sections_of bytes lifetimes)
-sections_within bytes lifetimes h = All-from_recursion (IsWithin (length bytes)) (sections_of bytes lifetimes) (between_within (masks lifetimes) 0 (length bytes) (masks_rise bytes lifetimes h))
+pub sections_within : (bytes : List ℕ) (lifetimes : List Span) → IsSound bytes lifetimes → All (IsSpanWithin (length bytes)) (sections_of bytes lifetimes)
+sections_within bytes lifetimes h = All-from_recursion (IsSpanWithin (length bytes)) (sections_of bytes lifetimes) (between_within (masks lifetimes) 0 (length bytes) (masks_rise bytes lifetimes h))
 
 -- ---- the lifetimes are numbers of the bytes
 

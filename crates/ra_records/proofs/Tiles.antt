@@ -9,8 +9,8 @@ use Rattle.ra_records.specs.declared.span.RaError.{RaError}
 use Rattle.ra_records.specs.declared.span.RaError.TheVariants.{NotRa, Short, TooLong}
 use Rattle.ra_records.specs.Masks.{span}
 use Rattle.ra_records.specs.Tiling.{Tile, IsOption, AreOptions, lifetimes_at}
-use Rattle.ra_records.specs.Options.{lifetimes_of, size_of, option_refusal, with_front, unless_refused, options_from}
-use Rattle.ra_records.specs.Advert.{Advert, router, candidate, lifetimes_in, seen_at, advert}
+use Rattle.ra_records.specs.Options.{lifetimes_of, size_of, option_refusal, with_lifetimes, unless_refused, options_from}
+use Rattle.ra_records.specs.Advert.{Advert, router, candidate, lifetimes_in, seen_at, advert, advertisement_limit, options_at}
 use Rattle.ra_records.proofs.Walk.{whole, one_more, front_ok}
 use Rattle.ra_records.proofs.Matching.{read_from}
 
@@ -49,7 +49,7 @@ record IsTiled (frame : List ℕ) (from end : ℕ) (found : List Span) : Type 0 
 
 tiled_cases : (frame : List ℕ) (o : Option RaError) (read : Ranges) (kind at size end : ℕ) (found : List Span) → kind ≡ slice_index frame at
     → (o ≡ None → IsOption frame (span at size)) → (o ≡ None → (more : List Span) → read ≡ Ok more → IsTiled frame (at + size) end more)
-    → unless_refused o (with_front (lifetimes_of kind at) read) ≡ Ok found → IsTiled frame at end found
+    → unless_refused o (with_lifetimes (lifetimes_of kind at) read) ≡ Ok found → IsTiled frame at end found
 tiled_cases frame (Some e) read kind at size end found k is more h = absurd cc
 tiled_cases frame None (Err e) kind at size end found k is more h = absurd cc
 tiled_cases frame None (Ok later) kind at size end found k is more h =
@@ -90,7 +90,7 @@ tiled zero at frame (byte ∷ bytes) found e le h =
     h)
 
 tests : (a b c : Bool) (found : List Span) (read : Ranges)
-    → cond a (cond b (Err Short) (cond c (Err TooLong) (with_front (router ∷ []) read))) (Err NotRa) ≡ Ok found → (b ≡ false) × (with_front (router ∷ []) read ≡ Ok found)
+    → cond a (cond b (Err Short) (cond c (Err TooLong) (with_lifetimes (router ∷ []) read))) (Err NotRa) ≡ Ok found → (b ≡ false) × (with_lifetimes (router ∷ []) read ≡ Ok found)
 tests false b c found read h = absurd cc
 tests true true c found read h = absurd cc
 tests true false true found read h = absurd cc
@@ -100,11 +100,11 @@ tests true false false found read h = (refl, h)
 pub options_of_lifetimes : (frame : List ℕ) (found : List Span) → lifetimes_in frame ≡ Ok found
     → (options : List Span) × AreOptions frame options × (found ≡ router ∷ flat_map (lifetimes_at frame) options)
 options_of_lifetimes frame found h =
-    let passed = tests (candidate frame) (nat_lt (length frame) 70) (nat_lt 1514 (length frame)) found (options_from 0 70 (drop 70 frame)) h in
-    let long : 70 ≤ length frame = ltb-false _ _ passed.0 in
-    let more = front_ok (router ∷ []) found (options_from 0 70 (drop 70 frame)) passed.1 in
-    let size : 70 + length (drop 70 frame) ≡ length frame = omega (arith, length-drop 70 frame) in
-    let is = subst (λ (n : ℕ). IsTiled frame 70 n more.0) size (tiled 0 70 frame (drop 70 frame) more.0 refl (omega arith) more.1) in
+    let passed = tests (candidate frame) (nat_lt (length frame) options_at) (nat_lt advertisement_limit (length frame)) found (options_from 0 options_at (drop options_at frame)) h in
+    let long : options_at ≤ length frame = ltb-false _ _ passed.0 in
+    let more = front_ok (router ∷ []) found (options_from 0 options_at (drop options_at frame)) passed.1 in
+    let size : options_at + length (drop options_at frame) ≡ length frame = omega (arith, length-drop options_at frame) in
+    let is = subst (λ (n : ℕ). IsTiled frame options_at n more.0) size (tiled 0 options_at frame (drop options_at frame) more.0 refl (omega arith) more.1) in
     (is.options, record { tile = is.tile; each = All-from_recursion (IsOption frame) is.options is.each }, sym more.2 ∙ ap (λ (xs : List Span). router ∷ xs) is.lifetimes)
 
 pub options-some : (frame : List ℕ) (now : ℕ) (r : Advert) → advert frame now ≡ Ok r
@@ -141,7 +141,7 @@ one_tile frame from end (x ∷ xs) (y ∷ ys) h k a b =
     ap (λ (s : Span). s ∷ xs) front ∙ ap (λ (spans : List Span). y ∷ spans) rest
 
 pub options-one : (frame : List ℕ) (first second : List Span) → AreOptions frame first → AreOptions frame second → first ≡ second
-options-one frame first second a b = one_tile frame 70 (length frame) first second a.tile b.tile a.each b.each
+options-one frame first second a b = one_tile frame options_at (length frame) first second a.tile b.tile a.each b.each
 
 -- ---- from options to an accepted frame
 
@@ -173,21 +173,21 @@ walked frame (s ∷ options) at bytes e h a =
     let rest = walked frame options (at + size_of bytes) (drop (size_of bytes) bytes) (ap (λ (xs : List ℕ). drop (size_of bytes) xs) e ∙ drop-drop (size_of bytes) at frame)
     (subst (λ (n : ℕ). Tile n options (length frame)) next h.1) (All-tail (IsOption frame) s options a) in
     one_more at bytes none
-    ∙ ap (with_front (lifetimes_of (slice_index bytes 0) at)) rest
+    ∙ ap (with_lifetimes (lifetimes_of (slice_index bytes 0) at)) rest
     ∙ ap (λ (k : ℕ). Ok (lifetimes_of k at ++ flat_map (lifetimes_at frame) options)) kind
     ∙ ap (λ (n : ℕ). Ok (lifetimes_of (slice_index frame s.at) n ++ flat_map (lifetimes_at frame) options)) (sym h.0)
 
-pub options-accepted : (frame : List ℕ) (options : List Span) (now : ℕ) → candidate frame ≡ true → 70 ≤ length frame → length frame ≤ 1514 → AreOptions frame options
+pub options-accepted : (frame : List ℕ) (options : List Span) (now : ℕ) → candidate frame ≡ true → options_at ≤ length frame → length frame ≤ advertisement_limit → AreOptions frame options
     → (r : Advert) × (advert frame now ≡ Ok r)
 unfolding advert
 options-accepted frame options now is long short are =
-    let there : nat_lt (length frame) 70 ≡ false = le-ltb (length frame) 70 long in
-    let within : nat_lt 1514 (length frame) ≡ false = le-ltb 1514 (length frame) short in
+    let there : nat_lt (length frame) options_at ≡ false = le-ltb (length frame) options_at long in
+    let within : nat_lt advertisement_limit (length frame) ≡ false = le-ltb advertisement_limit (length frame) short in
     let read : lifetimes_in frame ≡ Ok (router ∷ flat_map (lifetimes_at frame) options) =
-    read_all (candidate frame) (nat_lt (length frame) 70) (nat_lt 1514 (length frame)) (options_from 0 70 (drop 70 frame)) (flat_map (lifetimes_at frame) options)
-    is there within (walked frame options 70 (drop 70 frame) refl are.tile are.each) in
+    read_all (candidate frame) (nat_lt (length frame) options_at) (nat_lt advertisement_limit (length frame)) (options_from 0 options_at (drop options_at frame)) (flat_map (lifetimes_at frame) options)
+    is there within (walked frame options options_at (drop options_at frame) refl are.tile are.each) in
     (record { bytes = frame; lifetimes = router ∷ flat_map (lifetimes_at frame) options; seen = now }, ap (seen_at frame now) read)
   where
     read_all : (a b c : Bool) (read : Ranges) (found : List Span) → a ≡ true → b ≡ false → c ≡ false → read ≡ Ok found
-        → cond a (cond b (Err Short) (cond c (Err TooLong) (with_front (router ∷ []) read))) (Err NotRa) ≡ Ok (router ∷ found)
+        → cond a (cond b (Err Short) (cond c (Err TooLong) (with_lifetimes (router ∷ []) read))) (Err NotRa) ≡ Ok (router ∷ found)
     read_all a b c read found e f g h = rw (e, f, g, h) refl

@@ -6,7 +6,7 @@ use Rattle.std.proofs.lemmas.Bool.{cases_lt, lt-leb}
 use Rattle.std.proofs.lemmas.List.Sums.{sum_by-cons, sum_by-append}
 use Rattle.std.proofs.lemmas.List.Elements.{All-weaker}
 use Rattle.ra_records.specs.declared.span.Span.{Span}
-use Rattle.ra_records.specs.Masks.{span, lies_in, stretch, between, IsRising, IsWithin, IsNumber}
+use Rattle.ra_records.specs.Masks.{span, lies_in, stretch, between, IsRising, IsSpanWithin, IsNumber}
 use Rattle.ra_records.specs.Tiling.{AreApart}
 use Rattle.ra_records.specs.Advert.{Advert, masks, sections, sections_of, advert, IsSound}
 use Rattle.ra_records.proofs.Rising.{rising_end, masks_rise, sections_within, numbers}
@@ -130,7 +130,7 @@ pub sections-some : (frame : List ℕ) (now : ℕ) (r : Advert) → advert frame
 sections-some frame now r e =
     let read = read_from frame now r e in
     subst (λ (r : Advert). All (λ s. 0 < s.len) (sections r)) read.2
-    (All-weaker (IsWithin (length frame)) (λ s. 0 < s.len) (λ s h. h.some) (sections_of frame read.0) (sections_within frame read.0 (sound frame read.0 read.1)))
+    (All-weaker (IsSpanWithin (length frame)) (λ s. 0 < s.len) (λ s h. h.some) (sections_of frame read.0) (sections_within frame read.0 (sound frame read.0 read.1)))
 
 pub sections-apart : (frame : List ℕ) (now : ℕ) (r : Advert) → advert frame now ≡ Ok r → AreApart 0 (sections r)
 sections-apart frame now r e =

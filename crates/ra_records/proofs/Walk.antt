@@ -7,8 +7,8 @@ use Rattle.ra_records.specs.declared.span.Span.{Span}
 use Rattle.ra_records.specs.declared.span.RaError.{RaError}
 use Rattle.ra_records.specs.declared.span.RaError.TheVariants.{NotRa, Short, TooLong}
 use Rattle.ra_records.specs.Masks.{span, IsRising}
-use Rattle.ra_records.specs.Options.{lifetimes_of, size_of, option_refusal, with_front, unless_refused, options_from}
-use Rattle.ra_records.specs.Advert.{router, candidate, lifetimes_in, is_number, IsSound}
+use Rattle.ra_records.specs.Options.{lifetimes_of, size_of, option_refusal, with_lifetimes, unless_refused, options_from}
+use Rattle.ra_records.specs.Advert.{router, candidate, lifetimes_in, is_number, IsSound, advertisement_limit, options_at}
 
 abbrev Ranges : Type 0
 Ranges = Result (List Span) RaError
@@ -48,7 +48,7 @@ whole at bytes e =
     record { head = ltb-false _ _ tests.0; some = omega arith; fits = ltb-false _ _ tests.2; long = tests.3 }
 
 pub one_more : (at : ℕ) (bytes : List ℕ) → option_refusal at bytes ≡ None
-    → options_from 0 at bytes ≡ with_front (lifetimes_of (slice_index bytes 0) at) (options_from 0 (at + size_of bytes) (drop (size_of bytes) bytes))
+    → options_from 0 at bytes ≡ with_lifetimes (lifetimes_of (slice_index bytes 0) at) (options_from 0 (at + size_of bytes) (drop (size_of bytes) bytes))
 one_more at [] e = absurd cc
 one_more at (byte ∷ bytes) e =
     let is = whole at (byte ∷ bytes) e in
@@ -56,29 +56,29 @@ one_more at (byte ∷ bytes) e =
     let place : at + 1 + (8 * slice_index bytes 0 - 1) ≡ at + size_of (byte ∷ bytes) = omega (arith, is.some) in
     let count : suc (8 * slice_index bytes 0 - 1) ≡ size_of (byte ∷ bytes) = omega (arith, is.some) in
     let fit : 8 * slice_index bytes 0 - 1 ≤ length bytes = omega (arith, is.some, is.fits) in
-    ap (λ o. unless_refused o (with_front (lifetimes_of byte at) (options_from (8 * slice_index bytes 0 - 1) (at + 1) bytes))) e
-    ∙ ap (with_front (lifetimes_of byte at))
+    ap (λ o. unless_refused o (with_lifetimes (lifetimes_of byte at) (options_from (8 * slice_index bytes 0 - 1) (at + 1) bytes))) e
+    ∙ ap (with_lifetimes (lifetimes_of byte at))
     (skipped (8 * slice_index bytes 0 - 1) (at + 1) bytes fit
     ∙ ap (λ n. options_from 0 n (drop (8 * slice_index bytes 0 - 1) bytes)) place
     ∙ ap (λ n. options_from 0 (at + size_of (byte ∷ bytes)) (drop n (byte ∷ bytes))) count)
 
 pub stops : (at : ℕ) (bytes : List ℕ) (e : RaError) → (length bytes == 0) ≡ false → option_refusal at bytes ≡ Some e → options_from 0 at bytes ≡ Err e
 stops at [] e h k = absurd cc
-stops at (byte ∷ bytes) e h k = ap (λ o. unless_refused o (with_front (lifetimes_of byte at) (options_from (8 * slice_index bytes 0 - 1) (at + 1) bytes))) k
+stops at (byte ∷ bytes) e h k = ap (λ o. unless_refused o (with_lifetimes (lifetimes_of byte at) (options_from (8 * slice_index bytes 0 - 1) (at + 1) bytes))) k
 
-front_front : (xs ys : List Span) (found : Ranges) → with_front (xs ++ ys) found ≡ with_front xs (with_front ys found)
+front_front : (xs ys : List Span) (found : Ranges) → with_lifetimes (xs ++ ys) found ≡ with_lifetimes xs (with_lifetimes ys found)
 front_front xs ys (Ok found) = ap (λ zs. Ok zs) (append_assoc xs ys found)
 front_front xs ys (Err e) = refl
 
 -- a turn of the loop
 pub goes_on : (list more : List Span) (at : ℕ) (bytes rest : List ℕ) (total : Ranges)
     → option_refusal at bytes ≡ None → more ≡ list ++ lifetimes_of (slice_index bytes 0) at → rest ≡ drop (size_of bytes) bytes
-    → with_front list (options_from 0 at bytes) ≡ total → with_front more (options_from 0 (at + size_of bytes) rest) ≡ total
+    → with_lifetimes list (options_from 0 at bytes) ≡ total → with_lifetimes more (options_from 0 (at + size_of bytes) rest) ≡ total
 goes_on list more at bytes rest total e longer there sum =
-    ap (λ zs. with_front zs (options_from 0 (at + size_of bytes) rest)) longer
-    ∙ ap (λ zs. with_front (list ++ lifetimes_of (slice_index bytes 0) at) (options_from 0 (at + size_of bytes) zs)) there
+    ap (λ zs. with_lifetimes zs (options_from 0 (at + size_of bytes) rest)) longer
+    ∙ ap (λ zs. with_lifetimes (list ++ lifetimes_of (slice_index bytes 0) at) (options_from 0 (at + size_of bytes) zs)) there
     ∙ front_front list (lifetimes_of (slice_index bytes 0) at) (options_from 0 (at + size_of bytes) (drop (size_of bytes) bytes))
-    ∙ sym (ap (with_front list) (one_more at bytes e))
+    ∙ sym (ap (with_lifetimes list) (one_more at bytes e))
     ∙ sum
 
 -- ---- the ranges rise, and are numbers of two or of four bytes
@@ -107,7 +107,7 @@ in_front false false at size end more some long h =
 good_cases : (o : Option RaError) (read : Ranges) (kind at size end : ℕ) (found : List Span)
     → (o ≡ None → (8 ≤ size) × ((kind == 3) && nat_lt size 16 ≡ false))
     → (o ≡ None → (more : List Span) → read ≡ Ok more → IsGood (at + size) end more)
-    → unless_refused o (with_front (lifetimes_of kind at) read) ≡ Ok found → IsGood at end found
+    → unless_refused o (with_lifetimes (lifetimes_of kind at) read) ≡ Ok found → IsGood at end found
 good_cases (Some e) read kind at size end found is more h = absurd cc
 good_cases None (Err e) kind at size end found is more h = absurd cc
 good_cases None (Ok later) kind at size end found is more h =
@@ -139,23 +139,23 @@ good zero at (byte ∷ bytes) found le h =
     (good (8 * slice_index bytes 0 - 1) (at + 1) bytes more (omega (arith, is.some, is.fits)) read)))
     h)
 
-pub front_ok : (front found : List Span) (read : Ranges) → with_front front read ≡ Ok found → (more : List Span) × (read ≡ Ok more) × (front ++ more ≡ found)
+pub front_ok : (front found : List Span) (read : Ranges) → with_lifetimes front read ≡ Ok found → (more : List Span) × (read ≡ Ok more) × (front ++ more ≡ found)
 front_ok front found (Ok more) h = (more, refl, cc)
 front_ok front found (Err e) h = absurd cc
 
-sound_cases : (a b c : Bool) (frame : List ℕ) (found : List Span) → nat_lt (length frame) 70 ≡ b → nat_lt 1514 (length frame) ≡ c
-    → cond a (cond b (Err Short) (cond c (Err TooLong) (with_front (router ∷ []) (options_from 0 70 (drop 70 frame))))) (Err NotRa) ≡ Ok found → IsSound frame found
+sound_cases : (a b c : Bool) (frame : List ℕ) (found : List Span) → nat_lt (length frame) options_at ≡ b → nat_lt advertisement_limit (length frame) ≡ c
+    → cond a (cond b (Err Short) (cond c (Err TooLong) (with_lifetimes (router ∷ []) (options_from 0 options_at (drop options_at frame))))) (Err NotRa) ≡ Ok found → IsSound frame found
 sound_cases false b c frame found e f h = absurd cc
 sound_cases true true c frame found e f h = absurd cc
 sound_cases true false true frame found e f h = absurd cc
 sound_cases true false false frame found e f h =
-    let long : 70 ≤ length frame = ltb-false _ _ e in
-    let short : length frame ≤ 1514 = ltb-false _ _ f in
-    let more = front_ok (router ∷ []) found (options_from 0 70 (drop 70 frame)) h in
-    let size : 70 + length (drop 70 frame) ≡ length frame = omega (arith, length-drop 70 frame) in
-    let ok = subst (λ n. IsGood 70 n more.0) size (good 0 70 (drop 70 frame) more.0 (omega arith) more.1) in
+    let long : options_at ≤ length frame = ltb-false _ _ e in
+    let short : length frame ≤ advertisement_limit = ltb-false _ _ f in
+    let more = front_ok (router ∷ []) found (options_from 0 options_at (drop options_at frame)) h in
+    let size : options_at + length (drop options_at frame) ≡ length frame = omega (arith, length-drop options_at frame) in
+    let ok = subst (λ n. IsGood options_at n more.0) size (good 0 options_at (drop options_at frame) more.0 (omega arith) more.1) in
     subst (IsSound frame) more.2
-    (record { rising = (omega arith, rise_more 62 70 more.0 (length frame) (omega arith) ok.rising); numbers = ok.numbers; long = long; short = short })
+    (record { rising = (omega arith, rise_more 62 options_at more.0 (length frame) (omega arith) ok.rising); numbers = ok.numbers; long = long; short = short })
 
 pub sound : (frame : List ℕ) (found : List Span) → lifetimes_in frame ≡ Ok found → IsSound frame found
-sound frame found h = sound_cases (candidate frame) (nat_lt (length frame) 70) (nat_lt 1514 (length frame)) frame found refl refl h
+sound frame found h = sound_cases (candidate frame) (nat_lt (length frame) options_at) (nat_lt advertisement_limit (length frame)) frame found refl refl h

@@ -2,12 +2,12 @@
 -- holds. After ApfFilter of Android 10.
 use Rattle.std.specs.Prelude.{◌≡◌, ℕ, ◌+◌, ◌-◌, ◌/◌, ◌^◌, ◌≤◌, ◌<◌, nat_lt, ◌==◌, min, Bool, true, false, ◌&&◌, ◌||◌, if◌then◌else◌, List, [], ◌∷◌, length, drop, slice_range, slice_index, Option, Some, None, Result, Ok, Err}
 use Rattle.std.specs.List.{list_all}
-use Rattle.frame_views.specs.Fields.{value_of, field}
+use Rattle.frame_views.specs.Fields.{bytes_value, field}
 use Rattle.ra_records.specs.declared.span.Span.{Span}
 use Rattle.ra_records.specs.declared.span.RaError.{RaError}
 use Rattle.ra_records.specs.declared.span.RaError.TheVariants.{NotRa, Short, TooLong}
 use Rattle.ra_records.specs.Masks.{span, is_masked, same_outside, between, IsRising}
-use Rattle.ra_records.specs.Options.{options_from, with_front}
+use Rattle.ra_records.specs.Options.{options_from, with_lifetimes}
 
 -- ---- what is read of a frame
 
@@ -20,7 +20,20 @@ holds (Some v) n = v == n
 abbrev pub candidate : List ℕ → Bool
 candidate frame = holds (field frame 12 2) 0x86dd && (holds (field frame 20 1) 58 && holds (field frame 54 1) 134)
 
--- the router lifetime
+-- where the options begin, behind the message's fixed part, and the most bytes of a frame that is read
+abbrev pub options_at : ℕ
+options_at = 70
+
+abbrev pub advertisement_limit : ℕ
+advertisement_limit = 1514
+
+-- the flow label with half of the traffic class, the checksum, and the router lifetime
+abbrev pub flow_label : Span
+flow_label = span 15 3
+
+abbrev pub checksum : Span
+checksum = span 56 2
+
 abbrev pub router : Span
 router = span 60 2
 
@@ -28,9 +41,9 @@ router = span 60 2
 abbrev pub lifetimes_in : List ℕ → Result (List Span) RaError
 lifetimes_in frame =
     if candidate frame
-    then (if nat_lt (length frame) 70 then Err Short
-    else if nat_lt 1514 (length frame) then Err TooLong
-    else with_front (router ∷ []) (options_from 0 70 (drop 70 frame)))
+    then (if nat_lt (length frame) options_at then Err Short
+    else if nat_lt advertisement_limit (length frame) then Err TooLong
+    else with_lifetimes (router ∷ []) (options_from 0 options_at (drop options_at frame)))
     else Err NotRa
 
 -- a record: the bytes of the frame, its lifetimes, and when it was last seen
@@ -50,9 +63,9 @@ advert frame now = seen_at frame now (lifetimes_in frame)
 
 -- ---- the same again
 
--- the flow label with half of the traffic class (bytes 15 to 17), the checksum (56 and 57), and every lifetime
+-- what may change: the flow label, the checksum, and every lifetime
 abbrev pub masks : List Span → List Span
-masks lifetimes = span 15 3 ∷ span 56 2 ∷ lifetimes
+masks lifetimes = flow_label ∷ checksum ∷ lifetimes
 
 -- the nonempty ranges that aren't masked
 abbrev pub sections_of : List ℕ → List Span → List Span
@@ -78,16 +91,16 @@ is_number s = (s.len == 2) || (s.len == 4)
 
 -- the lifetimes stand one behind the other, behind the checksum, and are numbers of two or of four bytes
 pub record IsSound (bytes : List ℕ) (lifetimes : List Span) : Type 0 where
-  pub rising : IsRising 58 lifetimes (length bytes)
+  pub rising : IsRising (checksum.at + checksum.len) lifetimes (length bytes)
   pub numbers : list_all is_number lifetimes ≡ true
-  pub long : 70 ≤ length bytes
-  pub short : length bytes ≤ 1514
+  pub long : options_at ≤ length bytes
+  pub short : length bytes ≤ advertisement_limit
 
 -- ---- how long it holds
 
 -- the number in a range of a frame
 abbrev pub number_in : List ℕ → Span → ℕ
-number_in frame s = value_of (slice_range frame s.at (s.at + s.len))
+number_in frame s = bytes_value (slice_range frame s.at (s.at + s.len))
 
 -- the least of the numbers in ranges; of none it is the greatest number of four bytes
 abbrev pub least_in : List ℕ → List Span → ℕ

@@ -40,7 +40,7 @@ abbrev pub is_equal : List ℕ → List ℕ → Span → Bool
 is_equal frame bytes s = bytes_eq (slice_range frame s.at (s.at + s.len)) (slice_range bytes s.at (s.at + s.len))
 
 -- a range has a byte, and lies within so many bytes
-pub record IsWithin (end : ℕ) (s : Span) : Type 0 where
+pub record IsSpanWithin (end : ℕ) (s : Span) : Type 0 where
   pub some : 0 < s.len
   pub within : s.at + s.len ≤ end
 

@@ -27,9 +27,9 @@ option_refusal at bytes =
     else None
 
 -- the ranges of an option, in front of those of the options behind it
-abbrev pub with_front : List Span → Result (List Span) RaError → Result (List Span) RaError
-with_front front (Ok found) = Ok (front ++ found)
-with_front front (Err e) = Err e
+abbrev pub with_lifetimes : List Span → Result (List Span) RaError → Result (List Span) RaError
+with_lifetimes front (Ok found) = Ok (front ++ found)
+with_lifetimes front (Err e) = Err e
 
 -- what the options behind it are read as, unless it is refused
 abbrev pub unless_refused : Option RaError → Result (List Span) RaError → Result (List Span) RaError
@@ -42,4 +42,4 @@ options_from skip at [] = Ok []
 options_from (suc skip) at (byte ∷ bytes) = options_from skip (at + 1) bytes
 options_from zero at (byte ∷ bytes) =
     unless_refused (option_refusal at (byte ∷ bytes))
-    (with_front (lifetimes_of byte at) (options_from (8 * slice_index bytes 0 - 1) (at + 1) bytes))
+    (with_lifetimes (lifetimes_of byte at) (options_from (8 * slice_index bytes 0 - 1) (at + 1) bytes))

@@ -2,6 +2,7 @@
 use Rattle.std.specs.Prelude.{◌≡◌, ℕ, ◌+◌, ◌*◌, ◌<◌, ◌≤◌, ⊤, List, [], ◌∷◌, length, slice_index, All}
 use Rattle.ra_records.specs.declared.span.Span.{Span}
 use Rattle.ra_records.specs.Options.{lifetimes_of}
+use Rattle.ra_records.specs.Advert.{options_at}
 
 -- ranges stand in order from a place on, and at least a place lies between each and the next
 abbrev pub AreApart : ℕ → List Span → Type 0
@@ -22,7 +23,7 @@ pub record IsOption (frame : List ℕ) (s : Span) : Type 0 where
 
 -- ranges are the options of an advertisement's frame: they tile it from byte 70 to its end
 pub record AreOptions (frame : List ℕ) (options : List Span) : Type 0 where
-  pub tile : Tile 70 options (length frame)
+  pub tile : Tile options_at options (length frame)
   pub each : All (IsOption frame) options
 
 -- the ranges of the lifetimes of an option

@@ -4,9 +4,20 @@ ghost use Rattle.std.specs.Prelude.{◌≡◌, ◌≢◌, ◌↔◌, ◌<◌, �
 ghost use Rattle.std.specs.List.{Contains, count_by, flat_map};
 ghost use Rattle.ra_records.specs.declared.span.Span.{Span};
 ghost use Rattle.ra_records.specs.declared.span.RaError.TheVariants.{OutOfMemory};
-ghost use Rattle.ra_records.specs.Advert.{Advert, IsSame, advert, same, candidate, router, masks, sections, least, number_in};
+ghost use Rattle.ra_records.specs.Advert.{Advert, IsSame, advert, same, candidate, router, flow_label, checksum, masks, sections, least, number_in, advertisement_limit, options_at};
 ghost use Rattle.ra_records.specs.Masks.{lies_in};
 ghost use Rattle.ra_records.specs.Tiling.{AreApart, AreOptions, lifetimes_at};
+
+use crate::span::{ADVERTISEMENT_LIMIT, CHECKSUM, FLOW_LABEL, OPTIONS_AT, ROUTER};
+
+/// The places and lengths of the code are those of the definitions.
+pub fn places_are_defined()
+    ensures options { OPTIONS_AT ≡ options_at }
+    ensures limit { ADVERTISEMENT_LIMIT ≡ advertisement_limit }
+    ensures flow_label { FLOW_LABEL ≡ flow_label }
+    ensures checksum { CHECKSUM ≡ checksum }
+    ensures router { ROUTER ≡ router }
+{}
 
 /// A frame is the same as a record exactly where it is as long, and equal at every place that isn't masked.
 pub fn same_is_place_by_place()
@@ -40,7 +51,7 @@ pub fn options_tile_the_frame()
         first ≡ second }
     // and an advertisement that has one, and whose length is in range, is accepted.
     ensures accepted { (frame : List ℕ) (options : List Span) (now : ℕ) → candidate frame ≡ true →
-        70 ≤ length frame → length frame ≤ 1514 → AreOptions frame options → (r : Advert) × (advert frame now ≡ Ok r) }
+        options_at ≤ length frame → length frame ≤ advertisement_limit → AreOptions frame options → (r : Advert) × (advert frame now ≡ Ok r) }
 {}
 
 /// The least lifetime of an accepted frame is one of its lifetimes, and none is below it.

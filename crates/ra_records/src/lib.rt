@@ -15,11 +15,11 @@ mod span;
 mod tests;
 
 pub use laws::{
-    least_is_a_lifetime, options_tile_the_frame, refusals_have_causes, same_is_place_by_place,
-    sections_are_unmasked,
+    least_is_a_lifetime, options_tile_the_frame, places_are_defined, refusals_have_causes,
+    same_is_place_by_place, sections_are_unmasked,
 };
 pub use reading::candidate;
 pub use record::Record;
 pub use replies::{Held, RaReply};
 pub use sharing::types_are_shared;
-pub use span::{RaError, Span};
+pub use span::{ADVERTISEMENT_LIMIT, CHECKSUM, FLOW_LABEL, OPTIONS_AT, ROUTER, RaError, Span};

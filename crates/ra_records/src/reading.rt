@@ -3,10 +3,10 @@
 ghost use Rattle.std.specs.Prelude.{◌≡◌, ◌≢◌, ◌≤◌, ◌<◌, ◌+◌, ◌++◌, ◌∷◌, length, Err, OnOk, IfOk, All};
 ghost use Rattle.std.specs.List.{list_all};
 ghost use Rattle.ra_records.specs.Options.{lifetimes_of, option_refusal};
-ghost use Rattle.ra_records.specs.Masks.{stretch, between, IsRising, IsWithin, IsNumber, is_equal};
-ghost use Rattle.ra_records.specs.Advert.{candidate, lifetimes_in, least_in, number_in, masks};
+ghost use Rattle.ra_records.specs.Masks.{stretch, between, IsRising, IsSpanWithin, IsNumber, is_equal};
+ghost use Rattle.ra_records.specs.Advert.{candidate, lifetimes_in, least_in, number_in, masks, checksum, advertisement_limit};
 
-use crate::span::{RaError, Span};
+use crate::span::{ADVERTISEMENT_LIMIT, CHECKSUM, FLOW_LABEL, OPTIONS_AT, ROUTER, RaError, Span};
 use apf_base::{List, OutOfMemory};
 use frame_views::number;
 use std::alloc::Global;
@@ -42,7 +42,7 @@ fn option_refusal(at: u32, rest: &[u8]) -> Option<RaError>
 
 // Adds the lifetimes of an option of this type.
 fn add_lifetimes(kind: u8, at: u32, list: &mut List<Span>) -> Result<(), OutOfMemory>
-    requires { at ≤ 1514 }
+    requires { at ≤ advertisement_limit }
     ensures { OnOk result (list.new ≡ list.old ++ lifetimes_of kind at) }
 {
     if kind == 3 {
@@ -60,16 +60,16 @@ pub(crate) fn read_lifetimes(alloc: Global, frame: &[u8]) -> Result<List<Span>, 
     if !candidate(frame) {
         return Err(RaError::NotRa);
     }
-    if frame.len() < 70 {
+    if frame.len() < OPTIONS_AT {
         return Err(RaError::Short);
     }
-    if frame.len() > 1514 {
+    if frame.len() > ADVERTISEMENT_LIMIT {
         return Err(RaError::TooLong);
     }
     let mut list = List::new(alloc);
-    list.push(Span { at: 60, len: 2 })?;
-    let mut at = 70u32;
-    let (_, mut rest) = frame.split_at(70);
+    list.push(ROUTER)?;
+    let mut at = OPTIONS_AT as u32;
+    let (_, mut rest) = frame.split_at(OPTIONS_AT);
     while !rest.is_empty() {
         if let Some(refusal) = option_refusal(at, rest) {
             return Err(refusal);
@@ -110,13 +110,13 @@ pub(crate) fn read_sections(
     lifetimes: &[Span],
     end: u32,
 ) -> Result<List<Span>, OutOfMemory>
-    requires { IsRising 58 lifetimes.now end }
+    requires { IsRising (checksum.at + checksum.len) lifetimes.now end }
     ensures { IfOk result (λ xs. xs ≡ between 0 (masks lifetimes.now) end) }
 {
     let mut list = List::new(alloc);
-    add_stretch(0, 15, &mut list)?;
-    add_stretch(18, 56, &mut list)?;
-    let mut from = 58u32;
+    add_stretch(0, FLOW_LABEL.at, &mut list)?;
+    add_stretch(FLOW_LABEL.at + FLOW_LABEL.len, CHECKSUM.at, &mut list)?;
+    let mut from = CHECKSUM.at + CHECKSUM.len;
     for span in lifetimes {
         add_stretch(from, span.at, &mut list)?;
         from = span.at + span.len;
@@ -140,7 +140,7 @@ pub(crate) fn least_in(frame: &[u8], spans: &[Span]) -> u32
 /// Whether two frames of one length are equal in all these ranges.
 pub(crate) fn are_equal(frame: &[u8], bytes: &[u8], sections: &[Span]) -> bool
     requires same { length frame.now ≡ length bytes.now }
-    requires within { All (IsWithin (length bytes.now)) sections.now }
+    requires within { All (IsSpanWithin (length bytes.now)) sections.now }
     ensures { result ≡ list_all (is_equal frame.now bytes.now) sections.now }
 {
     for section in sections {

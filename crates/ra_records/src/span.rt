@@ -10,6 +10,21 @@ pub struct Span {
     pub len: u32,
 }
 
+/// Where the options of an advertisement begin, behind the message's fixed part.
+pub const OPTIONS_AT: usize = 70;
+
+/// The most bytes of an advertisement's frame.
+pub const ADVERTISEMENT_LIMIT: usize = 1514;
+
+/// The flow label, with half of the traffic class.
+pub const FLOW_LABEL: Span = Span { at: 15, len: 3 };
+
+/// The checksum of ICMPv6.
+pub const CHECKSUM: Span = Span { at: 56, len: 2 };
+
+/// The router lifetime.
+pub const ROUTER: Span = Span { at: 60, len: 2 };
+
 /// Why a frame is no record. The number is the place of an option in the frame.
 #[derive(Clone, Copy, Debug, PartialEq, Eq)]
 pub enum RaError {

@@ -23,7 +23,7 @@ use Rattle.plain_text.proofs.Numerals.{own}
 use Rattle.script_text.specs.declared.words.Endpoint.{Endpoint}
 use Rattle.script_text.specs.Words.{ip_word, address_word, endpoint_word}
 use Rattle.script_text.specs.Spelling.{SpellsIp, SpellsAddress, SpellsEndpoint}
-use Rattle.plain_text.specs.Numbers.{number_of}
+use Rattle.plain_text.specs.Numbers.{number_within}
 use Rattle.script_text.specs.WordReading.{cut_of, ip_of, address_of, endpoint_of}
 use Rattle.script_text.proofs.Exactness.{Exact, bind_some, if_some, some_inj}
 use Rattle.script_text.proofs.NumberWords.{number_exact}
@@ -166,7 +166,7 @@ unfolding address_of
 address_found word a e =
     let p = bind_some (cut_of 47 word) _ a e in
     let q = bind_some (ip_of p.0.0) _ a p.2 in
-    let n = bind_some (number_of 255 p.0.1) _ a q.2 in
+    let n = bind_some (number_within 255 p.0.1) _ a q.2 in
     let ip = (ip_exact p.0.0).found q.0 q.1 in
     let bits = (number_exact 255 p.0.1 (omega arith)).found n.0 n.1 in
     let same = some_inj (record { ip = q.0; prefix = n.0 }) a n.2 in
@@ -192,7 +192,7 @@ unfolding endpoint_of
 endpoint_found word a e =
     let p = bind_some (cut_of 58 word) _ a e in
     let q = bind_some (ip_of p.0.0) _ a p.2 in
-    let n = bind_some (number_of 65535 p.0.1) _ a q.2 in
+    let n = bind_some (number_within 65535 p.0.1) _ a q.2 in
     let ip = (ip_exact p.0.0).found q.0 q.1 in
     let port = (number_exact 65535 p.0.1 (omega arith)).found n.0 n.1 in
     let same = some_inj (record { ip = q.0; port = n.0 }) a n.2 in

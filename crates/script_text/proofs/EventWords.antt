@@ -18,10 +18,10 @@ use Rattle.policy_state.specs.declared.basis.Timed.{Timed}
 use Rattle.plain_text.proofs.Numerals.{own}
 use Rattle.script_text.specs.declared.words.Endpoint.{Endpoint}
 use Rattle.script_text.specs.Words.{ip_word, address_word, endpoint_word}
-use Rattle.plain_text.specs.Numbers.{number_of}
+use Rattle.plain_text.specs.Numbers.{number_within}
 use Rattle.script_text.specs.WordReading.{cut_of, address_of, endpoint_of}
 use Rattle.policy_state.specs.Ranges.{IsKeepalive}
-use Rattle.script_text.specs.ScriptLines.{switch_word, keepalive_words, update_text, event_line, local_end, remote_end, IsWord, IsScriptUpdate, IsEvent}
+use Rattle.script_text.specs.ScriptLines.{switch_word, keepalive_words, update_text, event_line, local_end, remote_end, IsWordNumber, IsScriptUpdate, IsEvent}
 use Rattle.script_text.specs.ScriptReading.{behind, switch_of, added_read, address_read, tried, update_of, event_of}
 use Rattle.script_text.proofs.Exactness.{Exact, bind_some, some_inj}
 use Rattle.script_text.proofs.AddressWords.{lacks, digits_lack, ip_word_passes, cut_found, cut_of-parts, address_exact, endpoint_exact}
@@ -63,14 +63,14 @@ added_found : (text : List ℕ) (update : Update) → added_read text ≡ Some u
 unfolding added_read
 added_found text update h =
     let a = bind_some (cut_of 32 text) _ update h in
-    let slot = bind_some (number_of 4294967295 a.0.0) _ update a.2 in
+    let slot = bind_some (number_within 4294967295 a.0.0) _ update a.2 in
     let b = bind_some (cut_of 32 a.0.1) _ update slot.2 in
     let local = bind_some (endpoint_of b.0.0) _ update b.2 in
     let c = bind_some (cut_of 32 b.0.1) _ update local.2 in
     let remote = bind_some (endpoint_of c.0.0) _ update c.2 in
     let d = bind_some (cut_of 32 c.0.1) _ update remote.2 in
-    let sequence = bind_some (number_of 4294967295 d.0.0) _ update d.2 in
-    let acknowledgement = bind_some (number_of 4294967295 d.0.1) _ update sequence.2 in
+    let sequence = bind_some (number_within 4294967295 d.0.0) _ update d.2 in
+    let acknowledgement = bind_some (number_within 4294967295 d.0.1) _ update sequence.2 in
     let s = (word_exact a.0.0).found slot.0 slot.1 in
     let l = (endpoint_exact b.0.0).found local.0 local.1 in
     let r = (endpoint_exact c.0.0).found remote.0 remote.1 in
@@ -86,13 +86,13 @@ added_found text update h =
       ap (λ (t : List ℕ). codes "keepalive add " ++ t) spelled,
     )
 
-word_read : (n : ℕ) → IsWord n → number_of 4294967295 (decimal n) ≡ Some n
+word_read : (n : ℕ) → IsWordNumber n → number_within 4294967295 (decimal n) ≡ Some n
 word_read n small = (word_exact (decimal n)).only n (small, refl)
 
 end_read : (e : Endpoint) → e.ip < 2 ^ 32 → e.port < 2 ^ 16 → endpoint_of (endpoint_word e) ≡ Some e
 end_read e ip port = (endpoint_exact (endpoint_word e)).only e (record { ip = ip; port = port; spelled = refl })
 
-added_again : (slot : ℕ) (sent : Keepalive) → IsWord slot → IsKeepalive sent → added_read (join_with_byte 32 (keepalive_words slot sent)) ≡ Some (updates.KeepaliveAdd slot sent)
+added_again : (slot : ℕ) (sent : Keepalive) → IsWordNumber slot → IsKeepalive sent → added_read (join_with_byte 32 (keepalive_words slot sent)) ≡ Some (updates.KeepaliveAdd slot sent)
 unfolding added_read
 added_again slot sent small k =
     let local_port = k.local_port in
@@ -132,7 +132,7 @@ none_is_no_address : address_of (codes "none") ≡ None
 unfolding address_of cut_of
 none_is_no_address = refl
 
-address_again : (a : Address) → IsWord a.ip → a.prefix ≤ 255 → address_read (address_word a) ≡ Some (updates.Address (Some a))
+address_again : (a : Address) → IsWordNumber a.ip → a.prefix ≤ 255 → address_read (address_word a) ≡ Some (updates.Address (Some a))
 unfolding address_read
 address_again a ip bits =
     let read = (address_exact (address_word a)).only a (record { ip = ip; prefix = bits; spelled = refl }) in
@@ -165,9 +165,9 @@ doze_found word update e =
     subst (λ (u : Update). IsScriptUpdate u × (codes "doze " ++ word ≡ update_text u)) (some_inj (updates.Doze p.0) update p.2)
     (tt, ap (λ (t : List ℕ). codes "doze " ++ t) ((switch_exact word).found p.0 p.1))
 
-remove_found : (word : List ℕ) (update : Update) → (number_of 4294967295 word >>= λ slot. Some (updates.KeepaliveRemove slot)) ≡ Some update → IsScriptUpdate update × (codes "keepalive remove " ++ word ≡ update_text update)
+remove_found : (word : List ℕ) (update : Update) → (number_within 4294967295 word >>= λ slot. Some (updates.KeepaliveRemove slot)) ≡ Some update → IsScriptUpdate update × (codes "keepalive remove " ++ word ≡ update_text update)
 remove_found word update e =
-    let p = bind_some (number_of 4294967295 word) _ update e in
+    let p = bind_some (number_within 4294967295 word) _ update e in
     let s = (word_exact word).found p.0 p.1 in
     subst (λ (u : Update). IsScriptUpdate u × (codes "keepalive remove " ++ word ≡ update_text u)) (some_inj (updates.KeepaliveRemove p.0) update p.2)
     (s.0, ap (λ (t : List ℕ). codes "keepalive remove " ++ t) s.1)
@@ -241,7 +241,7 @@ unfolding event_of
 event_found line e h =
     let text = bind_some (behind (codes "at ") line) _ e h in
     let parts = bind_some (cut_of 32 text.0) _ e text.2 in
-    let time = bind_some (number_of 4294967295 parts.0.0) _ e parts.2 in
+    let time = bind_some (number_within 4294967295 parts.0.0) _ e parts.2 in
     let update = bind_some (update_of parts.0.1) _ e time.2 in
     let t = (word_exact parts.0.0).found time.0 time.1 in
     let u = (update_exact parts.0.1).found update.0 update.1 in

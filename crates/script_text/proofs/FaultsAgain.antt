@@ -11,9 +11,9 @@ use Rattle.script_text.specs.declared.script_error.ScriptKind.{ScriptKind}
 use Rattle.script_text.specs.declared.script_error.ScriptKind.TheVariants.{Form, Order, End}
 use Rattle.plain_text.specs.Lines.{lines_of}
 use Rattle.script_text.specs.ScriptLines.{Contents, version_line, mac_line, capacity_line, start_line, drop_line, deny_line, event_line, lines_saying, IsEvent, kept_lines}
-use Rattle.script_text.specs.Scripts.{IsSound}
-use Rattle.script_text.specs.ScriptFaults.{IsOfForm, Refuses}
-use Rattle.script_text.specs.ScriptReading.{◌>>>◌, first, first_six, event_answer, with_front, events_from, contents_from, script_answer, version_read, mac_read, capacity_read, start_read, drop_read, deny_read}
+use Rattle.script_text.specs.Scripts.{IsSoundScript}
+use Rattle.script_text.specs.ScriptFaults.{IsOfForm, ScriptRefuses}
+use Rattle.script_text.specs.ScriptReading.{◌>>>◌, first, first_six, event_answer, with_events, events_from, contents_from, script_answer, version_read, mac_read, capacity_read, start_read, drop_read, deny_read}
 use Rattle.script_text.proofs.Exactness.{exact-refused}
 use Rattle.script_text.proofs.LineWords.{version_exact, mac_line_exact, capacity_line_exact, start_line_exact, drop_line_exact, deny_line_exact}
 use Rattle.script_text.proofs.Grammar.{Kept, texts, Chain, last_time, in_order_chain, chain_front, all_front, late_again, cons_head, cons_tail, event_form, event_order, EventsAre, events_on, Head, head, sound_head, six_on, read_version, read_mac, read_capacity, read_start, read_dropped}
@@ -114,15 +114,15 @@ front_of (e ∷ events) (x ∷ xs) ys h =
     let more = front_of events xs ys (cons_tail (event_line e) x (map event_line events) (xs ++ ys) h) in
     record { taken = e ∷ more.taken; left = more.left; events_are = ap (λ (es : List Timed). e ∷ es) more.events_are; spelled = ap (λ (t : List ℕ). t ∷ xs) (sym (cons_head (event_line e) x (map event_line events) (xs ++ ys) h)) ∙ ap (λ (ts : List (List ℕ)). event_line e ∷ ts) more.spelled }
 
-front_read : (c : Contents) (before : Kept) → IsSound c → (f : Front c.events (texts before)) → EventsAre c.start before f.taken
+front_read : (c : Contents) (before : Kept) → IsSoundScript c → (f : Front c.events (texts before)) → EventsAre c.start before f.taken
 front_read c before s f =
     let fit = subst (λ (es : List Timed). AllByRecursion IsEvent es) f.events_are (recursion_from_All IsEvent c.events s.events) in
     let chain = subst (Chain c.start) f.events_are (in_order_chain c.start c.events s.order) in
     record { fit = all_front IsEvent f.taken f.left fit; chain = chain_front c.start f.taken f.left chain; spelled = f.spelled }
 
-event_stops : (latest n : ℕ) (line : List ℕ) (after : Kept) (es : List Timed) (err : ScriptError) → event_answer latest (n, line) ≡ Err err → with_front es (events_from latest ((n, line) ∷ after)) ≡ Err err
+event_stops : (latest n : ℕ) (line : List ℕ) (after : Kept) (es : List Timed) (err : ScriptError) → event_answer latest (n, line) ≡ Err err → with_events es (events_from latest ((n, line) ∷ after)) ≡ Err err
 unfolding events_from
-event_stops latest n line after es err e = ap (λ (r : Result Timed ScriptError). with_front es (r >>> λ e. with_front (e ∷ []) (events_from e.time after))) e
+event_stops latest n line after es err e = ap (λ (r : Result Timed ScriptError). with_events es (r >>> λ e. with_events (e ∷ []) (events_from e.time after))) e
 
 -- six lines, lines of events, and one that isn't taken
 stopped_by_event : (c : Contents) (E : ℕ) (six before tail rest : Kept) (n : ℕ) (line : List ℕ) (after : Kept) (es : List Timed) (err : ScriptError)
@@ -132,7 +132,7 @@ stopped_by_event c E six before tail rest n line after es err read split events 
     let stop : events_from c.start rest ≡ Err err = ap (events_from c.start) split ∙ events_on c.start before ((n, line) ∷ after) es events ∙ event_stops (last_time c.start es) n line after es err e in
     rw (read, stop) refl
 
-form_again : (c : Contents) (E : ℕ) (before : Kept) (n : ℕ) (line : List ℕ) (after : Kept) (later : List (List ℕ)) → IsSound c → lines_saying c ≡ texts before ++ later → (IsOfForm (length before) line → ⊥) → contents_from E (before ++ (n, line) ∷ after) ≡ Err (Bad n Form)
+form_again : (c : Contents) (E : ℕ) (before : Kept) (n : ℕ) (line : List ℕ) (after : Kept) (later : List (List ℕ)) → IsSoundScript c → lines_saying c ≡ texts before ++ later → (IsOfForm (length before) line → ⊥) → contents_from E (before ++ (n, line) ∷ after) ≡ Err (Bad n Form)
 form_again c E [] n line after later s e refused = stopped_by_six E ([] ++ (n, line) ∷ after) (Bad n Form) (six_stops c E [] ((n, line) ∷ after) later (Bad n Form) (sound_head c s) e (omega arith) (stops_form 0 E n line after (omega arith) refused))
 form_again c E ((n0, l0) ∷ []) n line after later s e refused = stopped_by_six E (((n0, l0) ∷ []) ++ (n, line) ∷ after) (Bad n Form) (six_stops c E ((n0, l0) ∷ []) ((n, line) ∷ after) later (Bad n Form) (sound_head c s) e (omega arith) (stops_form 1 E n line after (omega arith) refused))
 form_again c E ((n0, l0) ∷ (n1, l1) ∷ []) n line after later s e refused = stopped_by_six E (((n0, l0) ∷ (n1, l1) ∷ []) ++ (n, line) ∷ after) (Bad n Form) (six_stops c E ((n0, l0) ∷ (n1, l1) ∷ []) ((n, line) ∷ after) later (Bad n Form) (sound_head c s) e (omega arith) (stops_form 2 E n line after (omega arith) refused))
@@ -157,17 +157,17 @@ form_again c E ((n0, l0) ∷ (n1, l1) ∷ (n2, l2) ∷ (n3, l3) ∷ (n4, l4) ∷
     (six_on c E n0 n1 n2 n3 n4 n5 l0 l1 l2 l3 l4 l5 (more ++ (n, line) ∷ after) (sound_head c s) (sym h0) (sym h1) (sym h2) (sym h3) (sym h4) (sym h5))
     refl (front_read c more s f) (event_form (last_time c.start f.taken) n line (λ x t. refused (x, t.0, t.1)))
 
-order_again : (c : Contents) (E : ℕ) (before : Kept) (n : ℕ) (line : List ℕ) (after : Kept) (x : Timed) → IsSound c → texts before ≡ lines_saying c → IsEvent x → line ≡ event_line x → x.time < last_time c.start c.events → contents_from E (before ++ (n, line) ∷ after) ≡ Err (Bad n Order)
+order_again : (c : Contents) (E : ℕ) (before : Kept) (n : ℕ) (line : List ℕ) (after : Kept) (x : Timed) → IsSoundScript c → texts before ≡ lines_saying c → IsEvent x → line ≡ event_line x → x.time < last_time c.start c.events → contents_from E (before ++ (n, line) ∷ after) ≡ Err (Bad n Order)
 order_again c E before n line after x s e fit spelled late =
     let six = six_of c E before ((n, line) ∷ after) (map event_line c.events) (sound_head c s) e in
     stopped_by_event c E (before ++ (n, line) ∷ after) six.0 [] (six.0 ++ (n, line) ∷ after) n line after c.events (Bad n Order)
     six.1 refl (events_of c six.0 s six.2) (event_order (last_time c.start c.events) n line x fit spelled late)
 
-end_again : (c : Contents) (E : ℕ) (lines : Kept) (later : List (List ℕ)) → IsSound c → lines_saying c ≡ texts lines ++ later → length lines < 6 → contents_from E lines ≡ Err (Bad E End)
+end_again : (c : Contents) (E : ℕ) (lines : Kept) (later : List (List ℕ)) → IsSoundScript c → lines_saying c ≡ texts lines ++ later → length lines < 6 → contents_from E lines ≡ Err (Bad E End)
 end_again c E lines later s e few =
     stopped_by_six E lines (Bad E End) (sym (ap (first_six E) (append-nil lines)) ∙ six_stops c E lines [] later (Bad E End) (sound_head c s) e few (stops_end (length lines) E few))
 
-pub refused_again : (text : List ℕ) (n : ℕ) (k : ScriptKind) → Refuses text n k → script_answer text ≡ Err (Bad n k)
+pub refused_again : (text : List ℕ) (n : ℕ) (k : ScriptKind) → ScriptRefuses text n k → script_answer text ≡ Err (Bad n k)
 refused_again text n Form r =
     let begun = r.fault.0 in
     let at_end : ℕ = length (lines_of text) + 1 in

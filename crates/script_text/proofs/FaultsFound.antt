@@ -9,15 +9,16 @@ use Rattle.script_text.specs.declared.script_error.ScriptKind.{ScriptKind}
 use Rattle.script_text.specs.declared.script_error.ScriptKind.TheVariants.{Form, End}
 use Rattle.plain_text.specs.Lines.{lines_of}
 use Rattle.policy_state.specs.Ranges.{IsMac}
-use Rattle.script_text.specs.ScriptLines.{Contents, version_line, mac_line, capacity_line, start_line, drop_line, deny_line, event_line, first_lines, lines_saying, IsCapacity, IsDeny, IsWord, IsEvent, kept_lines}
-use Rattle.script_text.specs.Scripts.{IsSound}
-use Rattle.script_text.specs.ScriptFaults.{IsOfForm, BeginsScript, Refuses}
+use Rattle.script_text.specs.ScriptLines.{Contents, version_line, mac_line, capacity_line, start_line, drop_line, deny_line, event_line, first_lines, lines_saying, IsCapacity, IsDeny, IsWordNumber, IsEvent, kept_lines}
+use Rattle.script_text.specs.Scripts.{IsSoundScript}
+use Rattle.script_text.specs.ScriptFaults.{IsOfForm, BeginsScript, ScriptRefuses}
 use Rattle.script_text.specs.ScriptReading.{first, first_six, events_from, contents_from, script_answer, version_read, mac_read, capacity_read, start_read, drop_read, deny_read}
 use Rattle.script_text.proofs.Exactness.{exact-none_spelled}
 use Rattle.script_text.proofs.DigitWords.{bytes-cons}
 use Rattle.script_text.proofs.LineWords.{version_exact, mac_line_exact, capacity_line_exact, start_line_exact, drop_line_exact, deny_line_exact}
 use Rattle.script_text.proofs.Grammar.{Kept, texts, late_is, bind_failed, first_is, first_fails, EventsAre, EventsFail, events_fail, Head, six_is}
 use Rattle.script_text.proofs.Said.{whole, sound_whole, texts-append}
+use Rattle.policy_state.specs.Limits.{capacity_least}
 
 -- ---- faults of the first six lines, found
 
@@ -28,7 +29,7 @@ zeros_mac : IsMac zeros
 unfolding zeros
 zeros_mac = record { six = refl; bytes = bytes-cons 0 (0 ∷ 0 ∷ 0 ∷ 0 ∷ 0 ∷ []) (omega arith) (bytes-cons 0 (0 ∷ 0 ∷ 0 ∷ 0 ∷ []) (omega arith) (bytes-cons 0 (0 ∷ 0 ∷ 0 ∷ []) (omega arith) (bytes-cons 0 (0 ∷ 0 ∷ []) (omega arith) (bytes-cons 0 (0 ∷ []) (omega arith) (bytes-cons 0 [] (omega arith) (λ k. omega arith)))))) }
 
-least_capacity : IsCapacity 128
+least_capacity : IsCapacity capacity_least
 least_capacity = record { least = omega arith; most = omega arith }
 
 nothing_denied : IsDeny []
@@ -38,25 +39,25 @@ nothing_denied = record { few = omega arith; fit = λ k d lt. omega arith }
 abbrev plain : List ℕ → ℕ → ℕ → Bool → List ℕ → Contents
 plain mac capacity start dropped deny = record { mac = mac; capacity = capacity; start = start; drop_802_3 = dropped; deny = deny; events = [] }
 
-plain_sound : (mac : List ℕ) (capacity start : ℕ) (dropped : Bool) (deny : List ℕ) → IsMac mac → IsCapacity capacity → IsWord start → IsDeny deny → IsSound (plain mac capacity start dropped deny)
+plain_sound : (mac : List ℕ) (capacity start : ℕ) (dropped : Bool) (deny : List ℕ) → IsMac mac → IsCapacity capacity → IsWordNumber start → IsDeny deny → IsSoundScript (plain mac capacity start dropped deny)
 plain_sound mac capacity start dropped deny a b c d = sound_whole (plain mac capacity start dropped deny) [] (record { mac = a; capacity = b; start = c; deny = d }) tt tt
 
 begins_version : BeginsScript ([])
-begins_version = record { script = plain zeros 128 0 false ([]); sound = plain_sound zeros 128 0 false ([]) zeros_mac least_capacity (omega arith) nothing_denied; later = version_line ∷ mac_line zeros ∷ capacity_line 128 ∷ start_line 0 ∷ drop_line false ∷ deny_line [] ∷ []; lines_are = refl }
+begins_version = record { script = plain zeros capacity_least 0 false ([]); sound = plain_sound zeros capacity_least 0 false ([]) zeros_mac least_capacity (omega arith) nothing_denied; later = version_line ∷ mac_line zeros ∷ capacity_line capacity_least ∷ start_line 0 ∷ drop_line false ∷ deny_line [] ∷ []; lines_are = refl }
 
 begins_mac : (l0 : List ℕ) → l0 ≡ version_line → BeginsScript (l0 ∷ [])
-begins_mac l0 e0 = record { script = plain zeros 128 0 false ([]); sound = plain_sound zeros 128 0 false ([]) zeros_mac least_capacity (omega arith) nothing_denied; later = mac_line zeros ∷ capacity_line 128 ∷ start_line 0 ∷ drop_line false ∷ deny_line [] ∷ []; lines_are = rw e0 refl }
+begins_mac l0 e0 = record { script = plain zeros capacity_least 0 false ([]); sound = plain_sound zeros capacity_least 0 false ([]) zeros_mac least_capacity (omega arith) nothing_denied; later = mac_line zeros ∷ capacity_line capacity_least ∷ start_line 0 ∷ drop_line false ∷ deny_line [] ∷ []; lines_are = rw e0 refl }
 
 begins_capacity : (mac : List ℕ) (l0 l1 : List ℕ) → IsMac mac → l0 ≡ version_line → l1 ≡ mac_line mac → BeginsScript (l0 ∷ l1 ∷ [])
-begins_capacity mac l0 l1 r1 e0 e1 = record { script = plain mac 128 0 false ([]); sound = plain_sound mac 128 0 false ([]) r1 least_capacity (omega arith) nothing_denied; later = capacity_line 128 ∷ start_line 0 ∷ drop_line false ∷ deny_line [] ∷ []; lines_are = rw (e0, e1) refl }
+begins_capacity mac l0 l1 r1 e0 e1 = record { script = plain mac capacity_least 0 false ([]); sound = plain_sound mac capacity_least 0 false ([]) r1 least_capacity (omega arith) nothing_denied; later = capacity_line capacity_least ∷ start_line 0 ∷ drop_line false ∷ deny_line [] ∷ []; lines_are = rw (e0, e1) refl }
 
 begins_start : (mac : List ℕ) (capacity : ℕ) (l0 l1 l2 : List ℕ) → IsMac mac → IsCapacity capacity → l0 ≡ version_line → l1 ≡ mac_line mac → l2 ≡ capacity_line capacity → BeginsScript (l0 ∷ l1 ∷ l2 ∷ [])
 begins_start mac capacity l0 l1 l2 r1 r2 e0 e1 e2 = record { script = plain mac capacity 0 false ([]); sound = plain_sound mac capacity 0 false ([]) r1 r2 (omega arith) nothing_denied; later = start_line 0 ∷ drop_line false ∷ deny_line [] ∷ []; lines_are = rw (e0, e1, e2) refl }
 
-begins_dropped : (mac : List ℕ) (capacity : ℕ) (start : ℕ) (l0 l1 l2 l3 : List ℕ) → IsMac mac → IsCapacity capacity → IsWord start → l0 ≡ version_line → l1 ≡ mac_line mac → l2 ≡ capacity_line capacity → l3 ≡ start_line start → BeginsScript (l0 ∷ l1 ∷ l2 ∷ l3 ∷ [])
+begins_dropped : (mac : List ℕ) (capacity : ℕ) (start : ℕ) (l0 l1 l2 l3 : List ℕ) → IsMac mac → IsCapacity capacity → IsWordNumber start → l0 ≡ version_line → l1 ≡ mac_line mac → l2 ≡ capacity_line capacity → l3 ≡ start_line start → BeginsScript (l0 ∷ l1 ∷ l2 ∷ l3 ∷ [])
 begins_dropped mac capacity start l0 l1 l2 l3 r1 r2 r3 e0 e1 e2 e3 = record { script = plain mac capacity start false ([]); sound = plain_sound mac capacity start false ([]) r1 r2 r3 nothing_denied; later = drop_line false ∷ deny_line [] ∷ []; lines_are = rw (e0, e1, e2, e3) refl }
 
-begins_deny : (mac : List ℕ) (capacity : ℕ) (start : ℕ) (dropped : Bool) (l0 l1 l2 l3 l4 : List ℕ) → IsMac mac → IsCapacity capacity → IsWord start → l0 ≡ version_line → l1 ≡ mac_line mac → l2 ≡ capacity_line capacity → l3 ≡ start_line start → l4 ≡ drop_line dropped → BeginsScript (l0 ∷ l1 ∷ l2 ∷ l3 ∷ l4 ∷ [])
+begins_deny : (mac : List ℕ) (capacity : ℕ) (start : ℕ) (dropped : Bool) (l0 l1 l2 l3 l4 : List ℕ) → IsMac mac → IsCapacity capacity → IsWordNumber start → l0 ≡ version_line → l1 ≡ mac_line mac → l2 ≡ capacity_line capacity → l3 ≡ start_line start → l4 ≡ drop_line dropped → BeginsScript (l0 ∷ l1 ∷ l2 ∷ l3 ∷ l4 ∷ [])
 begins_deny mac capacity start dropped l0 l1 l2 l3 l4 r1 r2 r3 e0 e1 e2 e3 e4 = record { script = plain mac capacity start dropped ([]); sound = plain_sound mac capacity start dropped ([]) r1 r2 r3 nothing_denied; later = deny_line [] ∷ []; lines_are = rw (e0, e1, e2, e3, e4) refl }
 
 pub length-texts : (lines : Kept) → length (texts lines) ≡ length lines
@@ -181,7 +182,7 @@ bad_parts n m k j e = (cc, cc)
 
 -- a fault has this number and kind
 abbrev Stands : List ℕ → ScriptError → Type 0
-Stands text (Bad n k) = Refuses text n k
+Stands text (Bad n k) = ScriptRefuses text n k
 Stands text OutOfMemory = ⊥
 
 head_stands : (text : List ℕ) (err : ScriptError) → HeadFault (length (lines_of text) + 1) (kept_lines text) err → Stands text err
@@ -235,5 +236,5 @@ answer_stands text err e = elim (contents_fail (length (lines_of text) + 1) (kep
   | inr f ↦ events_stand text err f
 ]
 
-pub refused_found : (text : List ℕ) (n : ℕ) (k : ScriptKind) → script_answer text ≡ Err (Bad n k) → Refuses text n k
+pub refused_found : (text : List ℕ) (n : ℕ) (k : ScriptKind) → script_answer text ≡ Err (Bad n k) → ScriptRefuses text n k
 refused_found text n k e = answer_stands text (Bad n k) e

@@ -10,10 +10,10 @@ use Rattle.script_text.specs.declared.script_error.ScriptError.{ScriptError}
 use Rattle.script_text.specs.declared.script_error.ScriptError.TheVariants.{Bad}
 use Rattle.script_text.specs.declared.script_error.ScriptKind.TheVariants.{Form, Order, End}
 use Rattle.policy_state.specs.Ranges.{IsMac}
-use Rattle.script_text.specs.ScriptLines.{Contents, version_line, mac_line, capacity_line, start_line, drop_line, deny_line, event_line, first_lines, IsCapacity, IsDeny, IsWord, IsEvent}
-use Rattle.script_text.specs.Scripts.{IsInOrder, IsSound}
+use Rattle.script_text.specs.ScriptLines.{Contents, version_line, mac_line, capacity_line, start_line, drop_line, deny_line, event_line, first_lines, IsCapacity, IsDeny, IsWordNumber, IsEvent}
+use Rattle.script_text.specs.Scripts.{IsInOrder, IsSoundScript}
 use Rattle.script_text.specs.ScriptFaults.{IsLate}
-use Rattle.script_text.specs.ScriptReading.{◌>>>◌, or_form, first, first_six, in_time, event_of, event_answer, with_front, events_from, version_read, mac_read, capacity_read, start_read, drop_read, deny_read}
+use Rattle.script_text.specs.ScriptReading.{◌>>>◌, or_form, first, first_six, in_time, event_of, event_answer, with_events, events_from, version_read, mac_read, capacity_read, start_read, drop_read, deny_read}
 use Rattle.script_text.proofs.Exactness.{exact-none_spelled, exact-refused}
 use Rattle.script_text.proofs.LineWords.{version_exact, mac_line_exact, capacity_line_exact, start_line_exact, drop_line_exact, deny_line_exact}
 use Rattle.script_text.proofs.EventWords.{event_exact}
@@ -196,11 +196,11 @@ event_order latest n line e fit spelled lt =
     let read = (event_exact line).only e (fit, spelled) in
     rw (read, lt-ltb e.time latest lt) refl
 
-with_front_ok : (front : List Timed) (r : Result (List Timed) ScriptError) (es : List Timed) → with_front front r ≡ Ok es → (rest : List Timed) × (r ≡ Ok rest) × (front ++ rest ≡ es)
+with_front_ok : (front : List Timed) (r : Result (List Timed) ScriptError) (es : List Timed) → with_events front r ≡ Ok es → (rest : List Timed) × (r ≡ Ok rest) × (front ++ rest ≡ es)
 with_front_ok front (Ok rest) es e = (rest, refl, ok_inj {A = List Timed} {E = ScriptError} (front ++ rest) es e)
 with_front_ok front (Err err) es e = absurd cc
 
-with_front_err : (front : List Timed) (r : Result (List Timed) ScriptError) (err : ScriptError) → with_front front r ≡ Err err → r ≡ Err err
+with_front_err : (front : List Timed) (r : Result (List Timed) ScriptError) (err : ScriptError) → with_events front r ≡ Err err → r ≡ Err err
 with_front_err front (Ok rest) err e = absurd cc
 with_front_err front (Err other) err e = ap Err (err_inj {A = List Timed} other err e)
 
@@ -221,16 +221,16 @@ events_is latest ((n, line) ∷ lines) es h =
     subst (EventsAre latest ((n, line) ∷ lines)) w.2
     (events_are-cons latest n line lines p.0 w.0 (event_is latest n line p.0 p.1) (events_is p.0.time lines w.0 w.1))
 
-with_front-cons : (e : Timed) (es : List Timed) (r : Result (List Timed) ScriptError) → with_front (e ∷ []) (with_front es r) ≡ with_front (e ∷ es) r
+with_front-cons : (e : Timed) (es : List Timed) (r : Result (List Timed) ScriptError) → with_events (e ∷ []) (with_events es r) ≡ with_events (e ∷ es) r
 with_front-cons e es (Ok rest) = refl
 with_front-cons e es (Err err) = refl
 
-with_front-nil : (r : Result (List Timed) ScriptError) → r ≡ with_front [] r
+with_front-nil : (r : Result (List Timed) ScriptError) → r ≡ with_events [] r
 with_front-nil (Ok rest) = refl
 with_front-nil (Err err) = refl
 
 -- lines of events are read, and then the others
-pub events_on : (latest : ℕ) (lines later : Kept) (es : List Timed) → EventsAre latest lines es → events_from latest (lines ++ later) ≡ with_front es (events_from (last_time latest es) later)
+pub events_on : (latest : ℕ) (lines later : Kept) (es : List Timed) → EventsAre latest lines es → events_from latest (lines ++ later) ≡ with_events es (events_from (last_time latest es) later)
 unfolding events_from
 events_on latest [] later [] a = with_front-nil (events_from latest later)
 events_on latest [] later (e ∷ es) a = absurd (let none = a.spelled in cc)
@@ -279,10 +279,10 @@ head c = record { mac = c.mac; capacity = c.capacity; start = c.start; drop_802_
 pub record Head (c : Contents) : Type 0 where
   pub mac : IsMac c.mac
   pub capacity : IsCapacity c.capacity
-  pub start : IsWord c.start
+  pub start : IsWordNumber c.start
   pub deny : IsDeny c.deny
 
-pub sound_head : (c : Contents) → IsSound c → Head c
+pub sound_head : (c : Contents) → IsSoundScript c → Head c
 sound_head c s = record { mac = s.mac; capacity = s.capacity; start = s.start; deny = s.deny }
 
 pub read_version : (c : Contents) (line : List ℕ) → Head c → line ≡ version_line → version_read line ≡ Some tt

@@ -12,17 +12,18 @@ use Rattle.hex.specs.Hex.{encode_with}
 use Rattle.apf_coding.specs.Reading.{◌>>=◌}
 use Rattle.script_text.specs.Words.{mac_word, ethertype_word}
 use Rattle.plain_text.proofs.Words.{equal_words}
-use Rattle.plain_text.specs.Numbers.{Writes}
+use Rattle.plain_text.specs.Numbers.{WritesNumber}
 use Rattle.script_text.specs.Spelling.{SpellsMac, SpellsEthertype}
-use Rattle.plain_text.specs.Numbers.{number_of}
+use Rattle.plain_text.specs.Numbers.{number_within}
 use Rattle.script_text.specs.WordReading.{mac_of, ethertype_of, byte_of, digit_of}
 use Rattle.policy_state.specs.Ranges.{IsMac}
-use Rattle.script_text.specs.ScriptLines.{switch_word, deny_word, version_line, mac_line, capacity_line, start_line, drop_line, deny_line, IsCapacity, IsDeny, IsWord}
+use Rattle.script_text.specs.ScriptLines.{switch_word, deny_word, version_line, mac_line, capacity_line, start_line, drop_line, deny_line, IsCapacity, IsDeny, IsWordNumber}
 use Rattle.script_text.specs.ScriptReading.{behind, switch_of, ethertypes_of, few_of, deny_of, at_least, version_read, mac_read, capacity_read, start_read, drop_read, deny_read}
 use Rattle.script_text.proofs.Exactness.{Exact, exact-same, bind_some, if_some, some_inj}
 use Rattle.script_text.proofs.NumberWords.{number_exact}
 use Rattle.script_text.proofs.DigitWords.{mac_exact, ethertype_exact}
 use Rattle.script_text.proofs.DenyLists.{ethertypes_some}
+use Rattle.policy_state.specs.Limits.{capacity_least, capacity_most, denied_most}
 
 -- ---- texts that are compared
 
@@ -89,31 +90,31 @@ at_least_is limit n m e =
     let same = some_inj n m g.1 in
     (subst (λ (k : ℕ). limit ≤ k) same (leb-true limit n g.0), same)
 
-capacity_word_exact : (word : List ℕ) → Exact (number_of 8192 word >>= at_least 128) (λ n. IsCapacity n × (word ≡ decimal n))
+capacity_word_exact : (word : List ℕ) → Exact (number_within capacity_most word >>= at_least capacity_least) (λ n. IsCapacity n × (word ≡ decimal n))
 capacity_word_exact word = record {
   found = λ n e.
-      let p = bind_some (number_of 8192 word) (at_least 128) n e in
-      let a = at_least_is 128 p.0 n p.2 in
-      let s = (number_exact 8192 word (omega arith)).found n (p.1 ∙ ap Some a.1) in
+      let p = bind_some (number_within capacity_most word) (at_least capacity_least) n e in
+      let a = at_least_is capacity_least p.0 n p.2 in
+      let s = (number_exact capacity_most word (omega arith)).found n (p.1 ∙ ap Some a.1) in
       (record { least = a.0; most = s.0 }, s.1);
   only = λ n t.
-      let read = (number_exact 8192 word (omega arith)).only n (t.0.most, t.1) in
-      rw (read, le-leb 128 n t.0.least) refl;
+      let read = (number_exact capacity_most word (omega arith)).only n (t.0.most, t.1) in
+      rw (read, le-leb capacity_least n t.0.least) refl;
 }
 
 pub capacity_line_exact : (line : List ℕ) → Exact (capacity_read line) (λ n. IsCapacity n × (line ≡ capacity_line n))
 unfolding capacity_read
-capacity_line_exact line = behind_exact (codes "capacity ") line (λ word. number_of 8192 word >>= at_least 128) IsCapacity decimal capacity_word_exact
+capacity_line_exact line = behind_exact (codes "capacity ") line (λ word. number_within capacity_most word >>= at_least capacity_least) IsCapacity decimal capacity_word_exact
 
 -- a number of 32 bits
-pub word_exact : (word : List ℕ) → Exact (number_of 4294967295 word) (λ n. IsWord n × (word ≡ decimal n))
-word_exact word = exact-same (Writes 4294967295 word) _ (number_of 4294967295 word) (number_exact 4294967295 word (omega arith))
+pub word_exact : (word : List ℕ) → Exact (number_within 4294967295 word) (λ n. IsWordNumber n × (word ≡ decimal n))
+word_exact word = exact-same (WritesNumber 4294967295 word) _ (number_within 4294967295 word) (number_exact 4294967295 word (omega arith))
     (λ n s. (let most = s.0 in omega arith, s.1))
     (λ n t. (let small = t.0 in omega arith, t.1))
 
-pub start_line_exact : (line : List ℕ) → Exact (start_read line) (λ n. IsWord n × (line ≡ start_line n))
+pub start_line_exact : (line : List ℕ) → Exact (start_read line) (λ n. IsWordNumber n × (line ≡ start_line n))
 unfolding start_read
-start_line_exact line = behind_exact (codes "start ") line (number_of 4294967295) IsWord decimal word_exact
+start_line_exact line = behind_exact (codes "start ") line (number_within 4294967295) IsWordNumber decimal word_exact
 
 switch_cases : (word : List ℕ) (on : Bool) (yes other : Bool) → bytes_eq word (codes "on") ≡ yes → bytes_eq word (codes "off") ≡ other
     → cond yes (Some true) (cond other (Some false) None) ≡ Some on → word ≡ switch_word on
@@ -198,14 +199,14 @@ ethertypes_of-word e [] fit = four_alone (ethertype_word e) e (length-ethertype_
 ethertypes_of-word e (x ∷ es) fit =
     four_then (ethertype_word e) (join_with_byte 44 (map ethertype_word (x ∷ es))) e (x ∷ es) (length-ethertype_word e) ((ethertype_exact (ethertype_word e)).only e (record { fits = fit.0; spelled = refl })) (ethertypes_of-word x es fit.1)
 
-few_is : (o : Option (List ℕ)) (deny : List ℕ) → few_of o ≡ Some deny → (o ≡ Some deny) × (length deny ≤ 32)
+few_is : (o : Option (List ℕ)) (deny : List ℕ) → few_of o ≡ Some deny → (o ≡ Some deny) × (length deny ≤ denied_most)
 few_is (Some es) deny e =
     let g = if_some (leb (length es) 32) (Some es) deny e in
     let same = some_inj es deny g.1 in
     (ap Some same, subst (λ (d : List ℕ). length d ≤ 32) same (leb-true (length es) 32 g.0))
 few_is None deny e = absurd cc
 
-listed_deny : (word deny : List ℕ) → 0 < length deny → length deny ≤ 32 → Listed word deny → IsDeny deny × (word ≡ deny_word deny)
+listed_deny : (word deny : List ℕ) → 0 < length deny → length deny ≤ denied_most → Listed word deny → IsDeny deny × (word ≡ deny_word deny)
 listed_deny word [] some few l = absurd (omega arith)
 listed_deny word (e ∷ es) some few l = (record { few = few; fit = All-from_recursion (λ (e : ℕ). e < 2 ^ 16) (e ∷ es) l.fit }, l.spelled)
 

@@ -8,15 +8,15 @@ use Rattle.policy_state.specs.declared.basis.Timed.{Timed}
 use Rattle.script_text.specs.declared.script_error.ScriptError.{ScriptError}
 use Rattle.plain_text.specs.Lines.{lines_of}
 use Rattle.script_text.specs.ScriptLines.{Contents, version_line, mac_line, capacity_line, start_line, drop_line, deny_line, event_line, first_lines, lines_saying, IsEvent, kept_lines}
-use Rattle.script_text.specs.Scripts.{IsSound, Says}
-use Rattle.script_text.specs.ScriptReading.{first_six, with_front, events_from, contents_from, script_answer}
+use Rattle.script_text.specs.Scripts.{IsSoundScript, Says}
+use Rattle.script_text.specs.ScriptReading.{first_six, with_events, events_from, contents_from, script_answer}
 use Rattle.script_text.proofs.Grammar.{Kept, texts, Chain, last_time, chain_in_order, in_order_chain, bind_okay, ok_inj, cons_head, cons_tail, EventsAre, events_is, events_on, Head, head, sound_head, six_on, six_is}
 
 -- what the first lines say, and events
 abbrev pub whole : Contents → List Timed → Contents
 whole h es = record { mac = h.mac; capacity = h.capacity; start = h.start; drop_802_3 = h.drop_802_3; deny = h.deny; events = es }
 
-pub sound_whole : (h : Contents) (es : List Timed) → Head h → AllByRecursion IsEvent es → Chain h.start es → IsSound (whole h es)
+pub sound_whole : (h : Contents) (es : List Timed) → Head h → AllByRecursion IsEvent es → Chain h.start es → IsSoundScript (whole h es)
 sound_whole h es r fit chain = record { mac = r.mac; capacity = r.capacity; start = r.start; deny = r.deny; events = All-from_recursion IsEvent es fit; order = chain_in_order h.start es chain }
 
 pub texts-append : (a b : Kept) → texts (a ++ b) ≡ texts a ++ texts b
@@ -60,14 +60,14 @@ six_of c E ((n0, l0) ∷ (n1, l1) ∷ (n2, l2) ∷ (n3, l3) ∷ (n4, l4) ∷ (n5
     let t5 = cons_tail l5 (deny_line c.deny) (texts rest) (later) t4 in
     (rest, six_on c E n0 n1 n2 n3 n4 n5 l0 l1 l2 l3 l4 l5 (rest ++ after) h h0 h1 h2 h3 h4 h5, t5)
 
-pub events_of : (c : Contents) (lines : Kept) → IsSound c → texts lines ≡ map event_line c.events → EventsAre c.start lines c.events
+pub events_of : (c : Contents) (lines : Kept) → IsSoundScript c → texts lines ≡ map event_line c.events → EventsAre c.start lines c.events
 events_of c lines s e = record { fit = recursion_from_All IsEvent c.events s.events; chain = in_order_chain c.start c.events s.order; spelled = e }
 
-ended_events : (latest : ℕ) (es : List Timed) → with_front es (events_from latest []) ≡ Ok es
+ended_events : (latest : ℕ) (es : List Timed) → with_events es (events_from latest []) ≡ Ok es
 unfolding events_from
 ended_events latest es = ap Ok (append-nil es)
 
-contents_again : (c : Contents) (E : ℕ) (lines : Kept) → IsSound c → texts lines ≡ lines_saying c → contents_from E lines ≡ Ok c
+contents_again : (c : Contents) (E : ℕ) (lines : Kept) → IsSoundScript c → texts lines ≡ lines_saying c → contents_from E lines ≡ Ok c
 unfolding contents_from
 contents_again c E lines s e =
     let six = six_of c E lines [] (map event_line c.events) (sound_head c s) e in

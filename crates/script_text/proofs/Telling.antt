@@ -5,7 +5,7 @@ use Rattle.policy_state.specs.declared.basis.Timed.{Timed}
 use Rattle.script_text.specs.declared.script_error.ScriptError.{ScriptError}
 use Rattle.script_text.specs.declared.script_error.ScriptError.TheVariants.{Bad, OutOfMemory}
 use Rattle.script_text.specs.ScriptLines.{Contents}
-use Rattle.script_text.specs.ScriptReading.{◌>>>◌, first, first_six, event_answer, with_front, events_from, contents_from, Fails, version_read, mac_read, capacity_read, start_read, drop_read, deny_read}
+use Rattle.script_text.specs.ScriptReading.{◌>>>◌, first, first_six, event_answer, with_events, events_from, contents_from, Fails, version_read, mac_read, capacity_read, start_read, drop_read, deny_read}
 
 -- an error of a step is that of the whole
 told_bind : {Y W : Type 0} (e : ScriptError) (m : Result Y ScriptError) (k : Y → Result W ScriptError) → Fails e m → Fails e (m >>> k)
@@ -95,31 +95,31 @@ told_six E E1 E2 E3 E4 E5 l0 l1 l2 l3 l4 l5 l6 mac capacity start dropped deny q
 
 -- ---- events
 
-with_front-with_front : (a b : List Timed) (r : Result (List Timed) ScriptError) → with_front a (with_front b r) ≡ with_front (a ++ b) r
+with_front-with_front : (a b : List Timed) (r : Result (List Timed) ScriptError) → with_events a (with_events b r) ≡ with_events (a ++ b) r
 with_front-with_front a b (Ok events) = ap Ok (sym (append_assoc a b events))
 with_front-with_front a b (Err e) = refl
 
 pub turn : (answer : Result (List Timed) ScriptError) (events : List Timed) (latest number : ℕ) (line : List ℕ) (old lines : Kept) (e : Timed)
-    → answer ≡ with_front events (events_from latest old) → old ≡ (number, line) ∷ lines → event_answer latest (number, line) ≡ Ok e → answer ≡ with_front (events ++ e ∷ []) (events_from e.time lines)
+    → answer ≡ with_events events (events_from latest old) → old ≡ (number, line) ∷ lines → event_answer latest (number, line) ≡ Ok e → answer ≡ with_events (events ++ e ∷ []) (events_from e.time lines)
 unfolding events_from
 turn answer events latest number line old lines e h split read =
     h
-    ∙ ap (λ (ls : Kept). with_front events (events_from latest ls)) split
-    ∙ ap (λ (r : Result Timed ScriptError). with_front events (r >>> λ e. with_front (e ∷ []) (events_from e.time lines))) read
+    ∙ ap (λ (ls : Kept). with_events events (events_from latest ls)) split
+    ∙ ap (λ (r : Result Timed ScriptError). with_events events (r >>> λ e. with_events (e ∷ []) (events_from e.time lines))) read
     ∙ with_front-with_front events (e ∷ []) (events_from e.time lines)
 
 pub stopped : (answer : Result (List Timed) ScriptError) (events : List Timed) (latest number : ℕ) (line : List ℕ) (old lines : Kept) (e : ScriptError)
-    → answer ≡ with_front events (events_from latest old) → old ≡ (number, line) ∷ lines → event_answer latest (number, line) ≡ Err e → Fails e answer
+    → answer ≡ with_events events (events_from latest old) → old ≡ (number, line) ∷ lines → event_answer latest (number, line) ≡ Err e → Fails e answer
 unfolding events_from
 stopped answer events latest number line old lines (Bad n kind) h split read =
     h
-    ∙ ap (λ (ls : Kept). with_front events (events_from latest ls)) split
-    ∙ ap (λ (r : Result Timed ScriptError). with_front events (r >>> λ e. with_front (e ∷ []) (events_from e.time lines))) read
+    ∙ ap (λ (ls : Kept). with_events events (events_from latest ls)) split
+    ∙ ap (λ (r : Result Timed ScriptError). with_events events (r >>> λ e. with_events (e ∷ []) (events_from e.time lines))) read
 stopped answer events latest number line old lines OutOfMemory h split read = tt
 
-pub ended : (answer : Result (List Timed) ScriptError) (events : List Timed) (latest : ℕ) (old : Kept) → answer ≡ with_front events (events_from latest old) → old ≡ [] → answer ≡ Ok events
+pub ended : (answer : Result (List Timed) ScriptError) (events : List Timed) (latest : ℕ) (old : Kept) → answer ≡ with_events events (events_from latest old) → old ≡ [] → answer ≡ Ok events
 unfolding events_from
-ended answer events latest old h none = h ∙ ap (λ (ls : Kept). with_front events (events_from latest ls)) none ∙ ap Ok (append-nil events)
+ended answer events latest old h none = h ∙ ap (λ (ls : Kept). with_events events (events_from latest ls)) none ∙ ap Ok (append-nil events)
 
 -- ---- the whole
 

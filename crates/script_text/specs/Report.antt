@@ -2,11 +2,10 @@
 use Rattle.std.specs.Prelude.{ℕ, ◌-◌, ◌==◌, if◌then◌else◌, List, [], ◌∷◌, ◌++◌, length, map, codes, Option, Some, None}
 use Rattle.std.specs.Fmt.{decimal}
 use Rattle.std.specs.List.{join_with_byte, flat_map}
-use Rattle.std.specs.Option.{option_map_or}
 use Rattle.hex.specs.Hex.{encode_lower}
 use Rattle.apf_coding.specs.Verdicts.{verdict_word}
 use Rattle.data_counters.specs.declared.counter.Counter.{Counter}
-use Rattle.data_counters.specs.Counters.{name_of, all_counters, counter_of}
+use Rattle.data_counters.specs.Counters.{name_of, all_counters}
 use Rattle.data_counters.specs.Memory.{value_of}
 use Rattle.ra_records.specs.declared.span.RaError.{RaError}
 use Rattle.ra_records.specs.declared.span.RaError.TheVariants as refusals
@@ -107,10 +106,6 @@ counted_line c n = codes "counter " ++ name_of c ++ codes " " ++ decimal n ++ co
 -- that of a counter that isn't 0
 unfoldable pub counter_line : List ℕ → Counter → List ℕ
 counter_line memory c = if value_of c memory == 0 then [] else counted_line c (value_of c memory)
-
--- the line of the counter with a number, if there is one
-abbrev pub numbered_line : List ℕ → ℕ → List ℕ
-numbered_line memory n = option_map_or (counter_line memory) (counter_of n) []
 
 -- the counters by their numbers
 unfoldable pub counter_lines : List ℕ → List ℕ

@@ -11,6 +11,7 @@ use Rattle.policy_state.specs.declared.basis.Script.{Script}
 use Rattle.script_text.specs.declared.words.Endpoint.{Endpoint}
 use Rattle.script_text.specs.Words.{mac_word, ethertype_word, address_word, endpoint_word}
 use Rattle.plain_text.specs.Lines.{lines_of}
+use Rattle.policy_state.specs.Limits.{capacity_least, capacity_most, denied_most}
 
 -- ---- what a script says
 
@@ -120,30 +121,30 @@ lines_saying c = first_lines c ++ map event_line c.events
 
 -- the bytes of a device
 pub record IsCapacity (n : ℕ) : Type 0 where
-  pub least : 128 ≤ n
-  pub most : n ≤ 8192
+  pub least : capacity_least ≤ n
+  pub most : n ≤ capacity_most
 
 -- at most 32 numbers of 16 bits
 pub record IsDeny (deny : List ℕ) : Type 0 where
-  pub few : length deny ≤ 32
+  pub few : length deny ≤ denied_most
   pub fit : All (λ e. e < 2 ^ 16) deny
 
 -- a number of 32 bits
-abbrev pub IsWord : ℕ → Type 0
-IsWord n = n < 2 ^ 32
+abbrev pub IsWordNumber : ℕ → Type 0
+IsWordNumber n = n < 2 ^ 32
 
 -- Slots and prefixes that the state refuses may stand in a script.
 abbrev pub IsScriptUpdate : Update → Type 0
 IsScriptUpdate (updates.Multicast on) = Unit {0}
 IsScriptUpdate (updates.Doze on) = Unit {0}
 IsScriptUpdate (updates.Address None) = Unit {0}
-IsScriptUpdate (updates.Address (Some a)) = IsWord a.ip × (a.prefix ≤ 255)
-IsScriptUpdate (updates.KeepaliveAdd slot sent) = IsWord slot × IsKeepalive sent
-IsScriptUpdate (updates.KeepaliveRemove slot) = IsWord slot
+IsScriptUpdate (updates.Address (Some a)) = IsWordNumber a.ip × (a.prefix ≤ 255)
+IsScriptUpdate (updates.KeepaliveAdd slot sent) = IsWordNumber slot × IsKeepalive sent
+IsScriptUpdate (updates.KeepaliveRemove slot) = IsWordNumber slot
 
 -- an event at a second
 abbrev pub IsEvent : Timed → Type 0
-IsEvent e = IsWord e.time × IsScriptUpdate e.update
+IsEvent e = IsWordNumber e.time × IsScriptUpdate e.update
 
 -- ---- the lines of a text
 

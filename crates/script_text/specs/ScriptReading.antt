@@ -11,10 +11,11 @@ use Rattle.script_text.specs.declared.script_error.ScriptKind.TheVariants.{Form,
 use Rattle.script_text.specs.declared.script_error.ScriptError.{ScriptError}
 use Rattle.script_text.specs.declared.script_error.ScriptError.TheVariants.{Bad, OutOfMemory}
 use Rattle.script_text.specs.declared.lines.Lines.{Lines}
-use Rattle.plain_text.specs.Numbers.{number_of}
+use Rattle.plain_text.specs.Numbers.{number_within}
 use Rattle.script_text.specs.WordReading.{mac_of, ethertype_of, cut_of, address_of, endpoint_of}
 use Rattle.plain_text.specs.Lines.{lines_of}
 use Rattle.script_text.specs.ScriptLines.{Contents, numbered, kept_lines, version_line}
+use Rattle.policy_state.specs.Limits.{capacity_least, capacity_most, denied_most}
 
 -- ---- the lines that are left
 
@@ -22,8 +23,8 @@ abbrev pub left : Lines → List (ℕ × List ℕ)
 left lines = numbered (lines.number + 1) (lines_of lines.rest.now)
 
 -- the number of all lines, and one
-abbrev pub end_of : Lines → ℕ
-end_of lines = lines.number + length (lines_of lines.rest.now) + 1
+abbrev pub end_line : Lines → ℕ
+end_line lines = lines.number + length (lines_of lines.rest.now) + 1
 
 -- the first of the lines that were left has this number, and the others are left
 abbrev pub Gives : Option (Bor (List ℕ)) → List (ℕ × List ℕ) → ℕ → List (ℕ × List ℕ) → Type 0
@@ -65,7 +66,7 @@ first_ethertype (a ∷ b ∷ c ∷ d ∷ comma ∷ rest) = if comma == 44 then (
 
 -- no more than a script may have
 abbrev pub few_of : Option (List ℕ) → Option (List ℕ)
-few_of (Some deny) = if nat_le (length deny) 32 then Some deny else None
+few_of (Some deny) = if nat_le (length deny) denied_most then Some deny else None
 few_of None = None
 
 -- none, or some ethertypes
@@ -88,12 +89,12 @@ mac_read line = behind (codes "mac ") line >>= mac_of
 unfoldable pub capacity_read : List ℕ → Option ℕ
 capacity_read line = do
   word ← behind (codes "capacity ") line
-  n ← number_of 8192 word
-  at_least 128 n
+  n ← number_within capacity_most word
+  at_least capacity_least n
 
 -- the fourth
 unfoldable pub start_read : List ℕ → Option ℕ
-start_read line = behind (codes "start ") line >>= number_of 4294967295
+start_read line = behind (codes "start ") line >>= number_within 4294967295
 
 -- the fifth
 unfoldable pub drop_read : List ℕ → Option Bool
@@ -109,14 +110,14 @@ deny_read line = behind (codes "deny ") line >>= deny_of
 unfoldable pub added_read : List ℕ → Option Update
 added_read text = do
   a ← cut_of 32 text
-  slot ← number_of 4294967295 a.0
+  slot ← number_within 4294967295 a.0
   b ← cut_of 32 a.1
   local ← endpoint_of b.0
   c ← cut_of 32 b.1
   remote ← endpoint_of c.0
   d ← cut_of 32 c.1
-  sequence ← number_of 4294967295 d.0
-  acknowledgement ← number_of 4294967295 d.1
+  sequence ← number_within 4294967295 d.0
+  acknowledgement ← number_within 4294967295 d.1
   Some (updates.KeepaliveAdd slot (record {
     local = local.ip;
     local_port = local.port;
@@ -142,7 +143,7 @@ update_of text =
     (tried (behind (codes "doze ") text) (λ word. switch_of word >>= λ on. Some (updates.Doze on))
     (tried (behind (codes "address ") text) address_read
     (tried (behind (codes "keepalive add ") text) added_read
-    (tried (behind (codes "keepalive remove ") text) (λ word. number_of 4294967295 word >>= λ slot. Some (updates.KeepaliveRemove slot))
+    (tried (behind (codes "keepalive remove ") text) (λ word. number_within 4294967295 word >>= λ slot. Some (updates.KeepaliveRemove slot))
     None))))
 
 -- the event of a line
@@ -150,7 +151,7 @@ unfoldable pub event_of : List ℕ → Option Timed
 event_of line = do
   text ← behind (codes "at ") line
   parts ← cut_of 32 text
-  time ← number_of 4294967295 parts.0
+  time ← number_within 4294967295 parts.0
   update ← update_of parts.1
   Some (record { time = time; update = update })
 
@@ -198,14 +199,14 @@ abbrev pub event_answer : ℕ → ℕ × List ℕ → Result Timed ScriptError
 event_answer latest l = or_form (event_of l.1) l.0 >>> in_time latest l.0
 
 -- events with others before them
-abbrev pub with_front : List Timed → Result (List Timed) ScriptError → Result (List Timed) ScriptError
-with_front front (Ok events) = Ok (front ++ events)
-with_front front (Err e) = Err e
+abbrev pub with_events : List Timed → Result (List Timed) ScriptError → Result (List Timed) ScriptError
+with_events front (Ok events) = Ok (front ++ events)
+with_events front (Err e) = Err e
 
 -- the events of the lines, none of which is earlier than the latest time before them
 unfoldable pub events_from : ℕ → List (ℕ × List ℕ) → Result (List Timed) ScriptError
 events_from latest [] = Ok []
-events_from latest (l ∷ lines) = event_answer latest l >>> λ e. with_front (e ∷ []) (events_from e.time lines)
+events_from latest (l ∷ lines) = event_answer latest l >>> λ e. with_events (e ∷ []) (events_from e.time lines)
 
 -- ---- the whole
 
@@ -228,6 +229,6 @@ Fails (Bad number kind) answer = answer ≡ Err (Bad number kind)
 Fails OutOfMemory answer = Unit {0}
 
 -- the answer, seen by view, unless memory ran out
-abbrev pub Tells : {X Y : Type 0} → (X → Y) → Result X ScriptError → Result Y ScriptError → Type 0
-Tells view (Ok x) answer = answer ≡ Ok (view x)
-Tells view (Err e) answer = Fails e answer
+abbrev pub ReadsAs : {X Y : Type 0} → (X → Y) → Result X ScriptError → Result Y ScriptError → Type 0
+ReadsAs view (Ok x) answer = answer ≡ Ok (view x)
+ReadsAs view (Err e) answer = Fails e answer

@@ -4,7 +4,7 @@ use Rattle.std.specs.List.{AllPairs}
 use Rattle.policy_state.specs.declared.basis.Timed.{Timed}
 use Rattle.policy_state.specs.declared.basis.Script.{Script}
 use Rattle.policy_state.specs.Ranges.{IsMac}
-use Rattle.script_text.specs.ScriptLines.{Contents, contents_of, lines_saying, IsCapacity, IsDeny, IsWord, IsEvent, kept_lines}
+use Rattle.script_text.specs.ScriptLines.{Contents, contents_of, lines_saying, IsCapacity, IsDeny, IsWordNumber, IsEvent, kept_lines}
 
 -- no event is earlier than the start or than an event before it
 pub record IsInOrder (start : ℕ) (events : List Timed) : Type 0 where
@@ -12,10 +12,10 @@ pub record IsInOrder (start : ℕ) (events : List Timed) : Type 0 where
   pub risen : AllPairs (λ earlier later. earlier.time ≤ later.time) events
 
 -- the values are in their ranges, and the events in their order
-pub record IsSound (c : Contents) : Type 0 where
+pub record IsSoundScript (c : Contents) : Type 0 where
   pub mac : IsMac c.mac
   pub capacity : IsCapacity c.capacity
-  pub start : IsWord c.start
+  pub start : IsWordNumber c.start
   pub deny : IsDeny c.deny
   pub events : All IsEvent c.events
   pub order : IsInOrder c.start c.events
@@ -24,7 +24,7 @@ pub record IsSound (c : Contents) : Type 0 where
 
 -- the lines of the text, but for those that are skipped, are those that say this
 pub record Says (text : List ℕ) (c : Contents) : Type 0 where
-  pub sound : IsSound c
+  pub sound : IsSoundScript c
   pub lines : map (λ l. l.1) (kept_lines text) ≡ lines_saying c
 
 -- the text is that of the script

@@ -7,7 +7,7 @@ use Rattle.std.specs.Net.Reader.{read_ipv4, whole_value}
 use Rattle.apf_coding.specs.Reading.{◌>>=◌}
 use Rattle.policy_state.specs.declared.state.Address.{Address}
 use Rattle.script_text.specs.declared.words.Endpoint.{Endpoint}
-use Rattle.plain_text.specs.Numbers.{number_of}
+use Rattle.plain_text.specs.Numbers.{number_within}
 
 -- ---- hexadecimal digits
 
@@ -67,7 +67,7 @@ unfoldable pub address_of : List ℕ → Option Address
 address_of word = do
   parts ← cut_of 47 word
   ip ← ip_of parts.0
-  bits ← number_of 255 parts.1
+  bits ← number_within 255 parts.1
   Some (record { ip = ip; prefix = bits })
 
 -- what stands on both sides of the colon
@@ -75,5 +75,5 @@ unfoldable pub endpoint_of : List ℕ → Option Endpoint
 endpoint_of word = do
   parts ← cut_of 58 word
   ip ← ip_of parts.0
-  port ← number_of 65535 parts.1
+  port ← number_within 65535 parts.1
   Some (record { ip = ip; port = port })

@@ -3,7 +3,8 @@
 ghost use Rattle.std.specs.Prelude.{◌≡◌, ◌≤◌, [], ◌∷◌, length, IfOk, IfErr};
 ghost use Rattle.script_text.specs.declared.script_error.ScriptError.TheVariants.{Bad};
 ghost use Rattle.script_text.specs.declared.script_error.ScriptKind.TheVariants.{Form, End};
-ghost use Rattle.script_text.specs.ScriptReading.{left, end_of, first, first_six, head_contents, Tells, version_read, mac_read, capacity_read, start_read, drop_read, deny_read};
+ghost use Rattle.script_text.specs.ScriptReading.{left, end_line, first, first_six, head_contents, ReadsAs, version_read, mac_read, capacity_read, start_read, drop_read, deny_read};
+ghost use Rattle.policy_state.specs.Limits.{capacity_least, capacity_most, denied_most};
 
 use crate::ethertypes::deny;
 use crate::line_words::{capacity, drop_802_3, mac, start, version};
@@ -26,8 +27,8 @@ fn form(lines: &Lines<'_>) -> ScriptError
 /// The next line that isn't skipped. Without one the text ends too early.
 fn next<'a>(lines: &mut Lines<'a>) -> Result<&'a [u8], ScriptError>
     ensures line { IfOk result (λ line. left lines.old ≡ (lines.new.number, line.now) ∷ left lines.new) }
-    ensures none { IfErr result (λ e. (left lines.old ≡ []) × (e ≡ Bad (end_of lines.old) End)) }
-    ensures end { end_of lines.new ≡ end_of lines.old }
+    ensures none { IfErr result (λ e. (left lines.old ≡ []) × (e ≡ Bad (end_line lines.old) End)) }
+    ensures end { end_line lines.new ≡ end_line lines.old }
 {
     match lines.next_line() {
         Some(line) => Ok(line),
@@ -39,8 +40,8 @@ fn next<'a>(lines: &mut Lines<'a>) -> Result<&'a [u8], ScriptError>
 }
 
 fn version_line(lines: &mut Lines<'_>) -> Result<(), ScriptError>
-    ensures line { Tells (λ version. (version, left lines.new)) result (first version_read (end_of lines.old) (left lines.old)) }
-    ensures end { end_of lines.new ≡ end_of lines.old }
+    ensures line { ReadsAs (λ version. (version, left lines.new)) result (first version_read (end_line lines.old) (left lines.old)) }
+    ensures end { end_line lines.new ≡ end_line lines.old }
 {
     let line = next(lines)?;
     match version(line) {
@@ -50,8 +51,8 @@ fn version_line(lines: &mut Lines<'_>) -> Result<(), ScriptError>
 }
 
 fn mac_line(lines: &mut Lines<'_>) -> Result<[u8; 6], ScriptError>
-    ensures line { Tells (λ mac. (mac, left lines.new)) result (first mac_read (end_of lines.old) (left lines.old)) }
-    ensures end { end_of lines.new ≡ end_of lines.old }
+    ensures line { ReadsAs (λ mac. (mac, left lines.new)) result (first mac_read (end_line lines.old) (left lines.old)) }
+    ensures end { end_line lines.new ≡ end_line lines.old }
 {
     let line = next(lines)?;
     match mac(line) {
@@ -61,9 +62,9 @@ fn mac_line(lines: &mut Lines<'_>) -> Result<[u8; 6], ScriptError>
 }
 
 fn capacity_line(lines: &mut Lines<'_>) -> Result<u32, ScriptError>
-    ensures line { Tells (λ capacity. (capacity, left lines.new)) result (first capacity_read (end_of lines.old) (left lines.old)) }
-    ensures bounds { IfOk result (λ capacity. (128 ≤ capacity) × (capacity ≤ 8192)) }
-    ensures end { end_of lines.new ≡ end_of lines.old }
+    ensures line { ReadsAs (λ capacity. (capacity, left lines.new)) result (first capacity_read (end_line lines.old) (left lines.old)) }
+    ensures bounds { IfOk result (λ capacity. (capacity_least ≤ capacity) × (capacity ≤ capacity_most)) }
+    ensures end { end_line lines.new ≡ end_line lines.old }
 {
     let line = next(lines)?;
     match capacity(line) {
@@ -73,8 +74,8 @@ fn capacity_line(lines: &mut Lines<'_>) -> Result<u32, ScriptError>
 }
 
 fn start_line(lines: &mut Lines<'_>) -> Result<u32, ScriptError>
-    ensures line { Tells (λ start. (start, left lines.new)) result (first start_read (end_of lines.old) (left lines.old)) }
-    ensures end { end_of lines.new ≡ end_of lines.old }
+    ensures line { ReadsAs (λ start. (start, left lines.new)) result (first start_read (end_line lines.old) (left lines.old)) }
+    ensures end { end_line lines.new ≡ end_line lines.old }
 {
     let line = next(lines)?;
     match start(line) {
@@ -84,8 +85,8 @@ fn start_line(lines: &mut Lines<'_>) -> Result<u32, ScriptError>
 }
 
 fn drop_line(lines: &mut Lines<'_>) -> Result<bool, ScriptError>
-    ensures line { Tells (λ dropped. (dropped, left lines.new)) result (first drop_read (end_of lines.old) (left lines.old)) }
-    ensures end { end_of lines.new ≡ end_of lines.old }
+    ensures line { ReadsAs (λ dropped. (dropped, left lines.new)) result (first drop_read (end_line lines.old) (left lines.old)) }
+    ensures end { end_line lines.new ≡ end_line lines.old }
 {
     let line = next(lines)?;
     match drop_802_3(line) {
@@ -95,9 +96,9 @@ fn drop_line(lines: &mut Lines<'_>) -> Result<bool, ScriptError>
 }
 
 fn deny_line(alloc: Global, lines: &mut Lines<'_>) -> Result<List<u16>, ScriptError>
-    ensures line { Tells (λ deny. (deny, left lines.new)) result (first deny_read (end_of lines.old) (left lines.old)) }
-    ensures few { IfOk result (λ deny. length deny ≤ 32) }
-    ensures end { end_of lines.new ≡ end_of lines.old }
+    ensures line { ReadsAs (λ deny. (deny, left lines.new)) result (first deny_read (end_line lines.old) (left lines.old)) }
+    ensures few { IfOk result (λ deny. length deny ≤ denied_most) }
+    ensures end { end_line lines.new ≡ end_line lines.old }
 {
     let line = next(lines)?;
     match deny(alloc, line)? {
@@ -108,7 +109,7 @@ fn deny_line(alloc: Global, lines: &mut Lines<'_>) -> Result<List<u16>, ScriptEr
 
 /// What the first six lines say: the configuration and the start.
 pub(crate) fn read_head(alloc: Global, lines: &mut Lines<'_>) -> Result<(Config, u32), ScriptError>
-    ensures { Tells (λ head. (head_contents head.0 head.1, left lines.new)) result (first_six (end_of lines.old) (left lines.old)) }
+    ensures { ReadsAs (λ head. (head_contents head.0 head.1, left lines.new)) result (first_six (end_line lines.old) (left lines.old)) }
 {
     version_line(lines)?;
     let mac = mac_line(lines)?;

@@ -2,12 +2,14 @@
 
 ghost use Rattle.std.specs.Prelude.{◌≡◌, ◌≤◌, ◌<◌, length, IfOk, IfSome};
 ghost use Rattle.std.specs.Option.{option_copied};
-ghost use Rattle.apf_coding.specs.Reading.{Reads};
+ghost use Rattle.apf_coding.specs.Reading.{IsReadAs};
 ghost use Rattle.script_text.specs.ScriptReading.{behind, switch_of, ethertypes_of, deny_of, version_read, mac_read, capacity_read, start_read, drop_read, deny_read};
+ghost use Rattle.policy_state.specs.Limits.{capacity_least, capacity_most};
 
 use crate::numbers::read_number;
 use crate::words::{read_ethertype, read_mac};
 use apf_base::{List, OutOfMemory};
+use policy_state::{CAPACITY_LEAST, CAPACITY_MOST};
 use std::alloc::Global;
 
 /// What stands behind a prefix.
@@ -53,10 +55,10 @@ pub(crate) fn mac(line: &[u8]) -> Option<[u8; 6]>
 #[tactic(auto, unfolding(crate::specs::ScriptReading::capacity_read))]
 pub(crate) fn capacity(line: &[u8]) -> Option<u32>
     ensures exact { result ≡ capacity_read line.now }
-    ensures bounds { IfSome result (λ n. (128 ≤ n) × (n ≤ 8192)) }
+    ensures bounds { IfSome result (λ n. (capacity_least ≤ n) × (n ≤ capacity_most)) }
 {
-    match read_number(behind(b"capacity ", line)?, 8192)? {
-        n if n >= 128 => Some(n),
+    match read_number(behind(b"capacity ", line)?, CAPACITY_MOST)? {
+        n if n >= CAPACITY_LEAST => Some(n),
         _ => None,
     }
 }

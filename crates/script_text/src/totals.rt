@@ -1,15 +1,19 @@
 //! The last lines of a report: the counters that aren't 0, and the totals.
 
 ghost use Rattle.std.specs.Prelude.{◌≡◌, ◌++◌, ◌≤◌, OnOk, OnErr, IfOk, string_bytes};
-ghost use Rattle.script_text.specs.Report.{counter_line, numbered_line, counter_lines, total_line, totals_lines};
+ghost use Rattle.script_text.specs.Report.{counter_line, counter_lines, total_line, totals_lines};
 
-use apf_base::{List, OutOfMemory};
-use data_counters::{Counter, get};
+use apf_base::{List, MEMORY_SIZE, OutOfMemory};
+use data_counters::{COUNTERS, Counter, get};
 use std::alloc::{AllocError, Global};
 
 /// Adds the line of a counter that isn't 0.
 #[tactic(auto, unfolding(crate::specs::Report::counter_line))]
-fn add_counter(text: &mut String, memory: &[u8; 128], counter: Counter) -> Result<(), AllocError>
+fn add_counter(
+    text: &mut String,
+    memory: &[u8; MEMORY_SIZE],
+    counter: Counter,
+) -> Result<(), AllocError>
     ensures { OnOk result (string_bytes text.new ≡ string_bytes text.old ++ counter_line memory.now counter) }
 {
     let value = get(memory, counter);
@@ -20,22 +24,12 @@ fn add_counter(text: &mut String, memory: &[u8; 128], counter: Counter) -> Resul
     Ok(())
 }
 
-/// Adds the line of the counter of a number, where there is one that isn't 0.
-fn add_numbered(text: &mut String, memory: &[u8; 128], number: u8) -> Result<(), AllocError>
-    ensures { OnOk result (string_bytes text.new ≡ string_bytes text.old ++ numbered_line memory.now number) }
-{
-    match Counter::from_number(number) {
-        Some(counter) => add_counter(text, memory, counter),
-        None => Ok(()),
-    }
-}
-
-fn counter_texts(alloc: Global, memory: &[u8; 128]) -> Result<String, AllocError>
+fn counter_texts(alloc: Global, memory: &[u8; MEMORY_SIZE]) -> Result<String, AllocError>
     ensures { IfOk result (λ text. string_bytes text ≡ counter_lines memory.now) }
 {
     let mut text = String::new(alloc);
-    for number in 1..28 {
-        add_numbered(&mut text, memory, number)?;
+    for counter in &COUNTERS {
+        add_counter(&mut text, memory, *counter)?;
     }
     Ok(text)
 }
@@ -57,7 +51,7 @@ fn add_total(text: &mut String, frames: u64, passed: u64, programs: u64) -> Resu
 /// of them passed and how many were dropped, and the programs that were installed.
 pub fn print_totals(
     alloc: Global,
-    memory: &[u8; 128],
+    memory: &[u8; MEMORY_SIZE],
     frames: u64,
     passed: u64,
     programs: u64,
@@ -75,7 +69,7 @@ pub fn print_totals(
 /// Appends the line of a counter of a memory, or nothing where it is 0.
 pub fn print_counter(
     alloc: Global,
-    memory: &[u8; 128],
+    memory: &[u8; MEMORY_SIZE],
     counter: Counter,
     out: &mut List<u8>,
 ) -> Result<(), OutOfMemory>

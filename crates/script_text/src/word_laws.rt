@@ -3,12 +3,12 @@
 ghost use Rattle.std.specs.Prelude.{◌≡◌, ◌<◌, ◌^◌, ℕ, List};
 ghost use Rattle.policy_state.specs.declared.state.Address.{Address};
 ghost use Rattle.script_text.specs.declared.words.Endpoint.{Endpoint};
-ghost use Rattle.plain_text.specs.Numbers.{Writes};
+ghost use Rattle.plain_text.specs.Numbers.{WritesNumber};
 ghost use Rattle.script_text.specs.Spelling.{SpellsMac, SpellsEthertype, SpellsIp, SpellsAddress, SpellsEndpoint};
 
 /// A word spells at most one value.
 pub fn words_have_one_value()
-    ensures numbers { (limit : ℕ) (word : List ℕ) (m n : ℕ) → limit < 2 ^ 64 → Writes limit word m → Writes limit word n → m ≡ n }
+    ensures numbers { (limit : ℕ) (word : List ℕ) (m n : ℕ) → limit < 2 ^ 64 → WritesNumber limit word m → WritesNumber limit word n → m ≡ n }
     ensures macs { (word m n : List ℕ) → SpellsMac word m → SpellsMac word n → m ≡ n }
     ensures ethertypes { (word : List ℕ) (m n : ℕ) → SpellsEthertype word m → SpellsEthertype word n → m ≡ n }
     ensures ips { (word : List ℕ) (m n : ℕ) → SpellsIp word m → SpellsIp word n → m ≡ n }

@@ -5,11 +5,11 @@ use Rattle.ra_records.specs.declared.replies.Held.{Held}
 use Rattle.size_fit.specs.Sizes.{weight}
 
 -- what records need with a base
-abbrev pub need_of : ℕ → List Held → ℕ
-need_of base records = base + sum_by (λ held. weight held.advert) records
+abbrev pub need_with : ℕ → List Held → ℕ
+need_with base records = base + sum_by (λ held. weight held.advert) records
 
 -- So many first records fit, and no longer prefix fits.
 pub record IsLongestThatFits (base limit : ℕ) (records : List Held) (kept : ℕ) : Type 0 where
   pub within : kept ≤ length records
-  pub fits : need_of base (take kept records) ≤ limit
-  pub longest : (more : ℕ) → kept < more → more ≤ length records → limit < need_of base (take more records)
+  pub fits : need_with base (take kept records) ≤ limit
+  pub longest : (more : ℕ) → kept < more → more ≤ length records → limit < need_with base (take more records)

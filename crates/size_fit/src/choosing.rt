@@ -2,7 +2,7 @@
 
 ghost use Rattle.std.specs.Prelude.{◌≡◌, ◌≤◌, ◌<◌, ◌↔◌, length, take, IfOk, IfErr, IsErr};
 ghost use Rattle.size_fit.specs.Sizes.{base};
-ghost use Rattle.size_fit.specs.Choosing.{IsLongestThatFits, need_of};
+ghost use Rattle.size_fit.specs.Choosing.{IsLongestThatFits, need_with};
 
 use crate::sizes::{base, weight};
 use policy_state::{Config, FilterState};
@@ -33,7 +33,7 @@ pub fn choose(
 ) -> Result<Fit, TooLarge>
     requires { length records.now ≤ 32 }
     ensures kept { IfOk result (λ fit. IsLongestThatFits (base config.now s.now) limit records.now fit.kept) }
-    ensures need { IfOk result (λ fit. fit.need ≡ need_of (base config.now s.now) (take fit.kept records.now)) }
+    ensures need { IfOk result (λ fit. fit.need ≡ need_with (base config.now s.now) (take fit.kept records.now)) }
     ensures too_large { IsErr result ↔ (limit < base config.now s.now) }
     ensures numbers { IfErr result (λ e. e ≡ record { need = base config.now s.now; limit = limit }) }
 {
@@ -48,7 +48,7 @@ pub fn choose(
 fn longest(need: u32, records: &[Held], limit: u32) -> Fit
     requires { need ≤ limit }
     ensures kept { IsLongestThatFits need limit records.now result.kept }
-    ensures need { result.need ≡ need_of need (take result.kept records.now) }
+    ensures need { result.need ≡ need_with need (take result.kept records.now) }
 {
     let mut fit = Fit { kept: 0, need };
     for held in records {

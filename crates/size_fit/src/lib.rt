@@ -12,4 +12,4 @@ mod tests;
 
 pub use choosing::{Fit, TooLarge, choose};
 pub use sharing::types_are_shared;
-pub use sizes::{base, weight};
+pub use sizes::{base, limit, weight};

@@ -2,9 +2,13 @@
 
 ghost use Rattle.std.specs.Prelude.{◌≡◌, ◌≤◌, ◌+◌, ◌*◌, length, is_some};
 ghost use Rattle.std.specs.List.{sum_by, count_by};
-ghost use Rattle.size_fit.specs.Sizes.{base, section_weight, weight};
+ghost use Rattle.size_fit.specs.Sizes.{base, limit_of, section_weight, weight};
 
-use policy_state::{Config, FilterState};
+use apf_base::MEMORY_SIZE;
+use policy_state::{
+    BASE_WEIGHT, COMPARISON_WEIGHT, Config, DENIED_WEIGHT, FilterState, KEEPALIVE_WEIGHT,
+    LIFETIME_WEIGHT, RECORD_WEIGHT,
+};
 use ra_records::{Record, Span};
 
 /// The bytes that a program needs without records: 512, and 9 for each denied ethertype and 80 for each keepalive.
@@ -12,7 +16,15 @@ pub fn base(config: &Config, s: &FilterState) -> u32
     ensures value { result ≡ base config.now s.now }
     ensures most { result ≤ 1440 }
 {
-    512 + 9 * config.deny.len() as u32 + 80 * s.count_keepalives()
+    BASE_WEIGHT + DENIED_WEIGHT * config.deny.len() as u32 + KEEPALIVE_WEIGHT * s.count_keepalives()
+}
+
+/// The bytes that a device has for a program: its capacity less those of the memory.
+pub fn limit(config: &Config) -> u32
+    ensures value { result ≡ limit_of config.now }
+    ensures most { result ≤ config.now.capacity }
+{
+    config.capacity - MEMORY_SIZE as u32
 }
 
 fn sections_weight(sections: &[Span]) -> u32
@@ -21,7 +33,7 @@ fn sections_weight(sections: &[Span]) -> u32
 {
     let mut sum = 0;
     for section in sections {
-        sum += 12 + section.len;
+        sum += COMPARISON_WEIGHT + section.len;
     }
     sum
 }
@@ -31,5 +43,5 @@ pub fn weight(r: &Record) -> u32
     ensures value { result ≡ weight r.now }
     ensures most { result ≤ 30000 }
 {
-    29 + sections_weight(r.sections()) + 12 * r.lifetimes().len() as u32
+    RECORD_WEIGHT + sections_weight(r.sections()) + LIFETIME_WEIGHT * r.lifetimes().len() as u32
 }

@@ -1,8 +1,8 @@
 -- The function's answer is the grammar's.
 use Rattle.std.proofs.Common.{arith}
 use Rattle.std.specs.Prelude.{All, length, ◌≤◌}
-use Rattle.apf_asm.specs.Items.{IsItemForm}
-use Rattle.apf_asm.specs.TextLines.{Reads}
+use Rattle.apf_asm.specs.Items.{IsItemForm, item_limit}
+use Rattle.apf_asm.specs.TextLines.{TextReads}
 use Rattle.apf_asm.specs.TextReading.{text_answer}
 use Rattle.apf_asm.proofs.TextLaws.{text_read, text_again, text_refused, text_refused_again, told_found, told_only, told_named, told_refused}
 use Rattle.apf_asm.proofs.TextShapes.{text_shape, text_few}
@@ -11,7 +11,7 @@ use Rattle.apf_asm.proofs.text.read_text.Goals as goal
 pub returns-clause-found : goal.returns-clause-found
 returns-clause-found c =
     let text = c.args.text.now in
-    told_found c.read_lines.result (text_answer text) (Reads text) c.read_lines.ensures (λ items e. text_read text items e)
+    told_found c.read_lines.result (text_answer text) (TextReads text) c.read_lines.ensures (λ items e. text_read text items e)
 
 pub returns-clause-only : goal.returns-clause-only
 returns-clause-only c items r =
@@ -33,4 +33,4 @@ returns-clause-forms c =
 pub returns-clause-few : goal.returns-clause-few
 returns-clause-few c =
     let text = c.args.text.now in
-    told_found c.read_lines.result (text_answer text) (λ items. length items ≤ 1048576) c.read_lines.ensures (λ items e. let few = text_few text items (text_read text items e) in omega arith)
+    told_found c.read_lines.result (text_answer text) (λ items. length items ≤ item_limit) c.read_lines.ensures (λ items e. let few = text_few text items (text_read text items e) in omega arith)

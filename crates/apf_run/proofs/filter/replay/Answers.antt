@@ -7,7 +7,7 @@ use Rattle.pcap_files.specs.declared.kinds.Records.{Records}
 use Rattle.filter_core.specs.Replay.{begun, after_arrival}
 use Rattle.filter_report.specs.Along.{InCourse}
 use Rattle.filter_report.specs.Arrivals.{arrivals_of}
-use Rattle.filter_report.specs.Faults.{fault_of}
+use Rattle.filter_report.specs.Faults.{command_fault}
 use Rattle.filter_report.specs.Lines.{Adds, BreaksOff}
 use Rattle.filter_report.specs.Report.{Leads, Tells, ended}
 use Rattle.command_plan.specs.Follows.{Follows, stage, sinking}
@@ -84,7 +84,7 @@ returns-in_err-finish-in-None g c = λ script line h.
     rw (p.1, p.2) (writes_seen _ _ _ old new _ (g.met.O.Lines.seen_is c.args.out.now) (g.met.O.Lines.seen_is c.finish.new.out)
     (record {
       at = λ shelf.
-          subst (λ (end : Option PcapError). Follows (says_some (λ more. TellsAll end script (arrivals_of bytes (capture bytes).list) (line ∷ more)) (refusal_by end)) (stage shelf old) (stage shelf new) (Err (fault_of fault)))
+          subst (λ (end : Option PcapError). Follows (says_some (λ more. TellsAll end script (arrivals_of bytes (capture bytes).list) (line ∷ more)) (refusal_by end)) (stage shelf old) (stage shelf new) (Err (command_fault fault)))
           (sym none)
           (ending_breaks script c.args.filtering line h bytes (λ k. omega (arith, c.type_inv.bytes k)) (stage shelf old) (stage shelf new)
           (record { files = refl; faults = omega arith; misses = omega arith; out_faults = omega (arith, e.faults, w.faults) }) g1 mid fault

@@ -4,10 +4,11 @@ use Rattle.pcap_files.specs.declared.kinds.Records.{Records}
 use Rattle.made_input.proofs.Whole.{capture_short}
 use Rattle.apf_run.proofs.Made.{made_few, ended_made}
 use Rattle.apf_run.proofs.make.replayed.Goals as goal
+use Rattle.apf_base.specs.Limits.{capture_limit}
 
 pub records-requires : goal.records-requires
 records-requires c =
-    subst (λ (t : List ℕ). length t ≤ 67108864) (sym (c.as_slice.ensures ∙ c.in_ok-bytes.ensures)) (capture_short c.args.n c.requires)
+    subst (λ (t : List ℕ). length t ≤ capture_limit) (sym (c.as_slice.ensures ∙ c.in_ok-bytes.ensures)) (capture_short c.args.n c.requires)
 
 pub take_all-requires-clause-few : goal.take_all-requires-clause-few
 take_all-requires-clause-few c =

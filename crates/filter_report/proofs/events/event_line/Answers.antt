@@ -1,6 +1,6 @@
 use Rattle.std.proofs.Common.{sym}
 use Rattle.std.proofs.lemmas.Result.{IfOk-weaker}
-use Rattle.filter_report.proofs.Learning.{renews_number}
+use Rattle.filter_core.proofs.TakenFrames.{renews_number}
 use Rattle.filter_report.proofs.Updating.{told_event, line_of_other}
 use Rattle.filter_report.proofs.events.event_line.Goals as goal
 

@@ -3,7 +3,7 @@ use Rattle.std.proofs.lemmas.Result.{err_from_is_err_and}
 use Rattle.filter_core.specs.Replay.{Course, after_event}
 use Rattle.filter_report.proofs.Adding.{adds_adds, adds_breaks, adds_none, breaks_later, passed_on}
 use Rattle.filter_report.proofs.Leading.{along_fits, leads_behind}
-use Rattle.filter_report.proofs.Updating.{fold_one, fold_all, no_event}
+use Rattle.filter_core.proofs.DueEvents.{fold_one, fold_all, no_event}
 use Rattle.filter_report.specs.Along.{Along}
 use Rattle.filter_report.specs.Lines.{Adds, BreaksOff}
 use Rattle.filter_report.specs.Report.{Leads}

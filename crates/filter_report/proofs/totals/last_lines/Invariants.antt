@@ -1,6 +1,6 @@
-use Rattle.std.proofs.Common.{◌≡◌, ◌-◌}
+use Rattle.std.proofs.Common.{◌≡◌}
 use Rattle.filter_report.proofs.Summing.{counted_lines}
 use Rattle.filter_report.proofs.totals.last_lines.Given as goal
 
-abbrev pub invariant-loop-number : goal.invariant-loop-number
-invariant-loop-number l = l.lines ≡ counted_lines l.memory (l.number - 1)
+abbrev pub invariant-loop-counter : goal.invariant-loop-counter
+invariant-loop-counter l = l.lines ≡ counted_lines l.memory l.counter-index

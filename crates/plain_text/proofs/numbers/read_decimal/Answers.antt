@@ -1,5 +1,5 @@
 use Rattle.std.proofs.Common.{ap, ◌∙◌, arith}
-use Rattle.plain_text.specs.Numbers.{number_of}
+use Rattle.plain_text.specs.Numbers.{number_within}
 use Rattle.plain_text.proofs.Numerals.{found_from, number_of-decimal}
 use Rattle.plain_text.proofs.numbers.read_decimal.Goals as goal
 
@@ -8,4 +8,4 @@ returns-clause-found c = found_from c.args.limit c.args.word.now c.number_in.res
 
 pub returns-clause-only : goal.returns-clause-only
 returns-clause-only c = λ n writes.
-    c.number_in.ensures ∙ ap (number_of c.args.limit) writes.1 ∙ number_of-decimal c.args.limit n (omega arith) writes.0
+    c.number_in.ensures ∙ ap (number_within c.args.limit) writes.1 ∙ number_of-decimal c.args.limit n (omega arith) writes.0

@@ -1,26 +1,20 @@
 -- Each turn adds the line of one counter.
-use Rattle.std.proofs.Common.{◌≡◌, ℕ, List, ◌+◌, ◌-◌, ◌++◌, sym, ap, ◌∙◌, arith}
-use Rattle.script_text.specs.Report.{numbered_line}
-use Rattle.script_text.proofs.Counted.{counted, counted-more, counted-none, counted-all}
+use Rattle.std.proofs.Common.{ℕ, List, ◌++◌, get_or, sym, ap, ◌∙◌, rules}
+use Rattle.data_counters.specs.Counters.{all_counters}
+use Rattle.data_counters.specs.declared.counter.Counter.TheVariants.{TotalPackets}
+use Rattle.script_text.specs.Report.{counter_line}
+use Rattle.script_text.proofs.Counted.{counted-more, counted-none, counted-all}
 use Rattle.script_text.proofs.totals.counter_texts.Goals as goal
 
-pub loop-number-init : goal.loop-number-init
-loop-number-init c = c.new-text.ensures.bytes ∙ sym (counted-none c.args.memory.now)
+pub loop-counter-init : goal.loop-counter-init
+loop-counter-init c = c.new-text.ensures.bytes ∙ sym (counted-none c.args.memory.now)
 
-pub loop-number-preserved : goal.loop-number-preserved
-loop-number-preserved c =
-    let memory = c.args.memory.now in
-    let n = c.loop-number.number in
-    let back : (n - 1) + 1 ≡ n = omega arith in
-    let next : n + 1 - 1 ≡ (n - 1) + 1 = omega arith in
-    c.in_ok-add_numbered.ensures
-    ∙ ap (λ (t : List ℕ). t ++ numbered_line memory n) c.loop-number.invariant
-    ∙ ap (λ (k : ℕ). counted memory (n - 1) ++ numbered_line memory k) (sym back)
-    ∙ sym (counted-more memory (n - 1) (omega arith))
-    ∙ ap (counted memory) (sym next)
+pub loop-counter-preserved : goal.loop-counter-preserved
+loop-counter-preserved c =
+    let counter = get_or all_counters c.loop-counter.counter-index TotalPackets in
+    c.in_ok-add_counter.ensures
+    ∙ ap (λ (t : List ℕ). t ++ counter_line c.args.memory.now counter) c.loop-counter.invariant
+    ∙ counted-more c.args.memory.now c.loop-counter.counter-index (search rules)
 
 pub returns : goal.returns
-returns c =
-    let memory = c.args.memory.now in
-    let last : c.loop-number.number - 1 ≡ 27 = omega arith in
-    c.loop-number.invariant ∙ ap (counted memory) last ∙ counted-all memory
+returns c = c.loop-counter.invariant ∙ counted-all c.args.memory.now c.loop-counter.counter-index (search rules)

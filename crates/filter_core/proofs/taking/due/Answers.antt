@@ -1,7 +1,7 @@
 use Rattle.std.proofs.Common.{refl, rules, arith, sym, ap, ◌∙◌, ℕ, take, drop, fold, get_or}
 use Rattle.filter_core.specs.Replay.{after_event}
-use Rattle.filter_report.proofs.Updating.{due_step, due_stop, due_all, no_event}
-use Rattle.filter_report.proofs.events.due.Goals as goal
+use Rattle.filter_core.proofs.DueEvents.{due_step, due_stop, due_all, no_event}
+use Rattle.filter_core.proofs.taking.due.Goals as goal
 
 pub loop-event-init : goal.loop-event-init
 loop-event-init c = record { count = refl; due = λ course. refl }

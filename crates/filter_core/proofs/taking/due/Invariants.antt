@@ -1,6 +1,6 @@
 use Rattle.std.proofs.Common.{◌≡◌, take, drop, fold}
 use Rattle.filter_core.specs.Replay.{Course, after_event, after_due}
-use Rattle.filter_report.proofs.events.due.Given as goal
+use Rattle.filter_core.proofs.taking.due.Given as goal
 
 abbrev pub invariant-loop-event : goal.invariant-loop-event
 invariant-loop-event l = record {
