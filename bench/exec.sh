@@ -2,7 +2,7 @@
 # How fast `exec` runs a program of 40 instructions over a capture of 100,000 frames, beside `tcpdump -nr` on the same
 # file where tcpdump is installed. Wants Python 3, and the proved program: run ./install first.
 #
-# Goal: less time than tcpdump, and at most the capture's size and 16 MiB of memory.
+# Goal: less time than tcpdump. What memory it takes is measured by stream.sh.
 . "$(dirname "$0")/setting.bash"
 python3 - "$program" "$folder" <<'PYTHON'
 import os, shutil, struct, subprocess, sys, time

@@ -1,7 +1,7 @@
 #!/usr/bin/env bash
 # Runs each command that the README and docs/ print with its output, and compares. Wants Python 3. `./try` stands for the
 # proved program where it is newer than all sources, and compiles one else. Then docs/TRUSTED.md is compared with the
-# definitions that the headline reaches.
+# definitions that the headline reaches, and a capture is taken from a pipe.
 set -eu
 top=$(cd "$(dirname "$0")/.." && pwd)
 folder=$(mktemp -d)
@@ -32,3 +32,4 @@ if failed:
 print("the examples print what they should")
 PYTHON
 python3 "$top/examples/trusted.py"
+"$top/examples/pipe.sh"

@@ -7,9 +7,10 @@ use Rattle.apf_base.specs.Memory.{one_more}
 abbrev pub failures_after : ℕ → Bool → ℕ
 failures_after count failed = if failed then one_more count else count
 
--- what is left of a reader, where it is told, and how many reads and fetches have failed
+-- what is left of a reader, where it is told, how many bytes it has given, and how many reads and fetches have failed
 pub record Reading : Type 0 where
   pub left : Option (List ℕ)
+  pub given : ℕ
   pub faults : ℕ
   pub misses : ℕ
 

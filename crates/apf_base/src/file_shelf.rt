@@ -1,7 +1,7 @@
 ghost use Rattle.std.specs.Prelude.{◌≡◌, ◌<◌, ◌≤◌, ◌↔◌, [], Some, None, ⊤, length, IfOk, OnOk, OnErr, IsErr, IsNone, MatchOption};
 ghost use Rattle.std.specs.Result.{is_err};
 ghost use Rattle.std.specs.Io.KnownBytes.{ReadConsumes, Keeps, IsAtEnd};
-ghost use Rattle.apf_base.specs.Causes.{HasCause};
+ghost use Rattle.apf_base.specs.Causes.{HasCause, given_after};
 ghost use Rattle.apf_base.specs.System.{failures_after, opened_bytes};
 
 use crate::{Failed, OutOfMemory, ReaderSource, Shelf, Source};
@@ -41,13 +41,13 @@ impl<'a, R: Files> Model for FileShelf<'a, R> {
 
     ghost Value = { Reading };
 
-    ghost view = { λ s. record { left = s.source.left; faults = s.source.faults; misses = s.misses } };
+    ghost view = { λ s. record { left = s.source.left; given = s.source.given; faults = s.source.faults; misses = s.misses } };
 }
 
 impl<'a, R: Files> FileShelf<'a, R> {
     /// The files that a runtime reaches. None is open yet, and nothing has failed.
     pub fn new(alloc: Global, files: &'a R) -> Result<Self, OutOfMemory>
-        ensures { IfOk result (λ shelf. shelf ≡ record { left = Some []; faults = 0; misses = 0 }) }
+        ensures { IfOk result (λ shelf. shelf ≡ record { left = Some []; given = 0; faults = 0; misses = 0 }) }
     {
         let source = ReaderSource::new(alloc, Opened(None))?;
         Ok(FileShelf {
@@ -64,6 +64,7 @@ impl<'a, R: Files> FileShelf<'a, R> {
         ensures cause { HasCause self.old.misses self.new.misses result }
         ensures counts { self.new.misses ≡ failures_after self.old.misses (is_err result) }
         ensures faults { self.new.faults ≡ self.old.faults }
+        ensures given { self.new.given ≡ self.old.given }
     {
         let missed = file.is_none();
         self.source.begin(Opened(file));
@@ -78,6 +79,8 @@ impl<'a, R: Files> FileShelf<'a, R> {
 impl<R: Files> Source for FileShelf<'_, R> {
     ghost left = { λ s. s.left };
 
+    ghost given = { λ s. s.given };
+
     ghost faults = { λ s. s.faults };
 
     ghost misses = { λ s. s.misses };
@@ -88,6 +91,7 @@ impl<R: Files> Source for FileShelf<'_, R> {
         requires { 0 < length buf.old }
         ensures bound { IfOk result (λ n. n ≤ length buf.new) }
         ensures bytes { ReadConsumes self.old.left self.new.left result buf.new }
+        ensures given { self.new.given ≡ given_after self.old.given result }
         ensures cause { HasCause self.old.faults self.new.faults result }
         ensures counts { self.new.faults ≡ failures_after self.old.faults (is_err result) }
         ensures misses { self.new.misses ≡ self.old.misses }
@@ -109,6 +113,7 @@ impl<R: Files> Shelf for FileShelf<'_, R> {
         ensures cause { HasCause self.old.misses self.new.misses result }
         ensures counts { self.new.misses ≡ failures_after self.old.misses (is_err result) }
         ensures faults { self.new.faults ≡ self.old.faults }
+        ensures given { self.new.given ≡ self.old.given }
     {
         let file = fs::open(self.files, name).ok();
         self.begin(file)

@@ -1,7 +1,7 @@
 ghost use Rattle.std.specs.Prelude.{◌≡◌, ◌<◌, ◌≤◌, None, length, IfOk};
 ghost use Rattle.std.specs.Result.{is_err};
 ghost use Rattle.std.specs.Io.KnownBytes.{ReadConsumes};
-ghost use Rattle.apf_base.specs.Causes.{HasCause};
+ghost use Rattle.apf_base.specs.Causes.{HasCause, given_after};
 ghost use Rattle.apf_base.specs.System.{failures_after};
 
 use crate::mem_source::copy_from;
@@ -21,6 +21,7 @@ pub struct ReaderSource<R: Read> {
     buffer: Vec<u8>,
     at: usize,
     filled: usize,
+    given: u64,
     faults: u64,
 }
 
@@ -31,7 +32,7 @@ impl<R: Read> Model for ReaderSource<R> {
 
     ghost Value = { Reading };
 
-    ghost view = { λ s. record { left = prepend_known (drop s.at (take s.filled s.buffer.items)) (R.remaining s.reader); faults = s.faults; misses = 0 } };
+    ghost view = { λ s. record { left = prepend_known (drop s.at (take s.filled s.buffer.items)) (R.remaining s.reader); given = s.given; faults = s.faults; misses = 0 } };
 
     ghost invariant = { λ s. (s.at ≤ s.filled) × (s.filled ≤ length s.buffer.items) × (0 < length s.buffer.items) };
 }
@@ -41,7 +42,7 @@ impl<R: Read> ReaderSource<R> {
     pub fn new(alloc: Global, reader: R) -> Result<Self, OutOfMemory>
     where
         R: Drop,
-        ensures { IfOk result (λ source. source ≡ record { left = R.remaining reader; faults = 0; misses = 0 }) }
+        ensures { IfOk result (λ source. source ≡ record { left = R.remaining reader; given = 0; faults = 0; misses = 0 }) }
     {
         let buffer = vec![in alloc; 0u8; BUFFER]?;
         Ok(ReaderSource {
@@ -49,6 +50,7 @@ impl<R: Read> ReaderSource<R> {
             buffer,
             at: 0,
             filled: 0,
+            given: 0,
             faults: 0,
         })
     }
@@ -68,6 +70,8 @@ impl<R: Read> ReaderSource<R> {
 impl<R: Read> Source for ReaderSource<R> {
     ghost left = { λ s. s.left };
 
+    ghost given = { λ s. s.given };
+
     ghost faults = { λ s. s.faults };
 
     ghost misses = { λ s. s.misses };
@@ -78,6 +82,7 @@ impl<R: Read> Source for ReaderSource<R> {
         requires { 0 < length buf.old }
         ensures bound { IfOk result (λ n. n ≤ length buf.new) }
         ensures bytes { ReadConsumes self.old.left self.new.left result buf.new }
+        ensures given { self.new.given ≡ given_after self.old.given result }
         ensures cause { HasCause self.old.faults self.new.faults result }
         ensures counts { self.new.faults ≡ failures_after self.old.faults (is_err result) }
         ensures misses { self.new.misses ≡ self.old.misses }
@@ -93,6 +98,7 @@ impl<R: Read> Source for ReaderSource<R> {
         }
         let count = copy_from(&self.buffer[..self.filled], self.at, usize::MAX, buf);
         self.at += count;
+        self.given = self.given.saturating_add(count as u64);
         Ok(count)
     }
 }

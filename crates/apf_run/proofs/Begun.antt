@@ -4,12 +4,12 @@ use Rattle.std.specs.List.{concat}
 use Rattle.std.specs.Io.KnownBytes.{Keeps}
 use Rattle.std.proofs.lemmas.Bool.{cases_lt, le-ltb, lt-ltb}
 use Rattle.apf_base.specs.Causes.{Rose}
-use Rattle.apf_base.specs.Streams.{AppendsFront, AppendsAll}
+use Rattle.apf_base.specs.Streams.{AppendsPart, AppendsAll}
 use Rattle.apf_generate.specs.Ranges.{IsScript}
 use Rattle.policy_state.specs.States.{start}
 use Rattle.policy_state.specs.declared.basis.Script.{Script}
 use Rattle.size_fit.specs.Sizes.{base, limit_of}
-use Rattle.filter_core.specs.Replay.{begun}
+use Rattle.filter_core.specs.Replay.{begun, course}
 use Rattle.filter_report.specs.Along.{Reporting, InCourse}
 use Rattle.filter_report.specs.Faults.{command_fault}
 use Rattle.filter_report.specs.Lines.{Adds, BreaksOff}
@@ -17,18 +17,27 @@ use Rattle.filter_report.specs.Report.{Leads, Tells}
 use Rattle.filter_report.specs.Text.{entry_lines}
 use Rattle.filter_report.specs.declared.fault.ReportFault.{ReportFault}
 use Rattle.filter_report.specs.declared.fault.ReportFault.TheVariants as reports
-use Rattle.filter_report.proofs.Leading.{along_tells}
+use Rattle.filter_report.proofs.Leading.{along_tells, leads_story}
+use Rattle.filter_report.proofs.Completing.{HasBytes, story_codes}
+use Rattle.std.proofs.lemmas.List.Elements.{All-nil}
 use Rattle.command_plan.specs.declared.fault.Refusal.{Refusal}
-use Rattle.command_plan.specs.declared.fault.Refusal.TheVariants.{TooLarge}
+use Rattle.command_plan.specs.declared.fault.Refusal.TheVariants.{BadCapture, TooLarge}
 use Rattle.command_plan.specs.declared.fault.Fault.{Fault}
 use Rattle.command_plan.specs.declared.fault.Fault.TheVariants as faults
 use Rattle.command_plan.specs.Follows.{Shelving, Sinking, Stage, Later, Follows, Writes, stage}
 use Rattle.command_plan.specs.Plan.{Plan, Done, picks, says, unless, ◌>>=◌}
 use Rattle.command_plan.proofs.Following.{before, done, fails, lacks, then_on, then_pick}
-use Rattle.command_plan.proofs.Saying.{all_said, front_of_more}
-use Rattle.command_plan.proofs.Texts.{ended, front_said}
-use Rattle.apf_run.specs.Filter.{HasBegun, IsFirstLine, begins, script_refusal}
-use Rattle.apf_run.proofs.Replaying.{first_lines}
+use Rattle.command_plan.proofs.Saying.{all_said, part_of_more}
+use Rattle.command_plan.proofs.Texts.{ended, part_said}
+use Rattle.filter_report.specs.Streaming.{HasBegun, IsReplayed, record_shares, replays}
+use Rattle.pcap_files.specs.Stream.{told_end}
+use Rattle.pcap_files.specs.declared.fault.PcapError.{PcapError}
+use Rattle.command_plan.specs.Files.{input}
+use Rattle.command_plan.specs.declared.fault.FileKind.TheVariants.{Capture}
+use Rattle.command_plan.specs.Weaving.{weaves_all}
+use Rattle.command_plan.proofs.Weaving.{woven_none, woven_refused}
+use Rattle.command_plan.proofs.Stages.{idle_refl}
+use Rattle.apf_run.specs.Filter.{IsFirstLine, begins, script_refusal}
 
 pub not_less : (n m : ℕ) → (n < m → ⊥) → m ≤ n
 not_less n m never =
@@ -41,6 +50,12 @@ pub err_is : {A : Type 0} {x y : ReportFault} → (let failed : Result A ReportF
 err_is e = cc
 
 -- ---- one line
+
+-- the line of a first install that broke off can be completed to the one that is defined
+first_lines : (script : Script) → IsScript script → base script.config start ≤ limit_of script.config → (lines : List (List ℕ)) → Leads (begun script).told [] lines
+    → (rest : List (List ℕ)) × Tells (begun script).told [] (lines ++ rest)
+unfolding course
+first_lines script sound fits lines lead = leads_story script [] lines (story_codes script sound fits [] (All-nil HasBytes)) lead
 
 -- what tells the first install is one line
 pub one_line : (script : Script) (lines : List (List ℕ)) → Tells (begun script).told [] lines → (line : List ℕ) × (lines ≡ line ∷ [])
@@ -81,21 +96,21 @@ module _ (script : Script) (a b : Stage) where
       (then_pick (IsFirstLine script) Rest line a b (Ok line) is
       (then_on (says (line ∷ [])) (λ _. Done line) tt a b b (Ok line) (all_said (line ∷ []) a b later left all) (done line b (Ok line) refl)))
 
-  begun_broken : base script.config start ≤ limit_of script.config → Later a b → Rose a.out.faults b.out.faults → (line : List ℕ) → IsFirstLine script line
-      → AppendsFront a.out.held b.out.held (concat (line ∷ [])) → Follows (begins script) a b (Err faults.Write)
-  begun_broken fits later rose line is front =
+  begun_broken : base script.config start ≤ limit_of script.config → Later a b → b.shelf.left ≡ a.shelf.left → Rose a.out.faults b.out.faults → (line : List ℕ) → IsFirstLine script line
+      → AppendsPart a.out.held b.out.held (concat (line ∷ [])) → Follows (begins script) a b (Err faults.Write)
+  begun_broken fits later left rose line is part =
       has_room fits (Err faults.Write)
       (then_pick (IsFirstLine script) Rest line a b (Err faults.Write) is
-      (fails (says (line ∷ [])) (λ _. Done line) faults.Write a b (Err faults.Write) refl (front_said a b later (line ∷ []) [] rose front)))
+      (fails (says (line ∷ [])) (λ _. Done line) faults.Write a b (Err faults.Write) refl (part_said a b later (line ∷ []) [] left rose part)))
 
   -- a write failed within it
-  pub begun_unwritten : IsScript script → base script.config start ≤ limit_of script.config → Later a b → Rose a.out.faults b.out.faults → (more : List (List ℕ)) → Leads (begun script).told [] more
-      → AppendsFront a.out.held b.out.held (concat more) → Follows (begins script) a b (Err faults.Write)
-  begun_unwritten sound fits later rose more lead front =
+  pub begun_unwritten : IsScript script → base script.config start ≤ limit_of script.config → Later a b → b.shelf.left ≡ a.shelf.left → Rose a.out.faults b.out.faults → (more : List (List ℕ))
+      → Leads (begun script).told [] more → AppendsPart a.out.held b.out.held (concat more) → Follows (begins script) a b (Err faults.Write)
+  begun_unwritten sound fits later left rose more lead part =
       let whole = first_lines script sound fits more lead in
       let one = one_line script (more ++ whole.0) whole.1 in
-      begun_broken fits later rose one.0 (subst (λ (l : List (List ℕ)). Tells (begun script).told [] l) one.1 whole.1)
-      (subst (λ (l : List (List ℕ)). AppendsFront a.out.held b.out.held (concat l)) one.1 (front_of_more a.out.held b.out.held more whole.0 front))
+      begun_broken fits later left rose one.0 (subst (λ (l : List (List ℕ)). Tells (begun script).told [] l) one.1 whole.1)
+      (subst (λ (l : List (List ℕ)). AppendsPart a.out.held b.out.held (concat l)) one.1 (part_of_more a.out.held b.out.held more whole.0 part))
 
   -- the program has no room
   pub begun_refused : limit_of script.config < base script.config start → Follows (begins script) a a (Err (faults.Refused (TooLarge (base script.config start) (limit_of script.config))))
@@ -131,7 +146,7 @@ module _ (script : Script) (sound : IsScript script) (a b : Sinking) (later : a.
   begin_fails reports.Write front keeps large fits rose =
       let le : base script.config start ≤ limit_of script.config = not_less (limit_of script.config) (base script.config start) (λ lt. let bad = fits lt in absurd cc) in
       let r = front refl [] refl in
-      record { at = λ shelf. begun_unwritten script (stage shelf a) (stage shelf b) sound le (behind shelf) (rose refl) r.0 r.2 r.1 }
+      record { at = λ shelf. begun_unwritten script (stage shelf a) (stage shelf b) sound le (behind shelf) refl (rose refl) r.0 r.2 r.1 }
 
   -- the line of the first install was written, and the filter has begun
   pub begin_goes : (f : Reporting) → base script.config start ≤ limit_of script.config → Adds (λ lines. lines ≡ []) (InCourse (begun script) f []) a.held b.held
@@ -148,3 +163,13 @@ module _ (script : Script) (sound : IsScript script) (a b : Sinking) (later : a.
         },
         record { sound = sound; fits = fits; course = subst (λ (l : List (List ℕ)). InCourse (begun script) f [] l) one.1 r.2 },
       )
+
+-- ---- a capture that is refused by its header
+
+-- the line of the first install is all that is said of it
+pub refused_at_once : (script : Script) (f : Reporting) (line : List ℕ) → HasBegun script f (line ∷ []) → (fault : PcapError) (b : Stage) (r : Result (Unit {0}) Fault)
+    → r ≡ Err (faults.Refused (BadCapture fault)) → Follows (replays (input Capture 2) script line (told_end (Some fault))) b b r
+unfolding course record_shares
+refused_at_once script f line h fault b r is =
+    then_pick (λ more. IsReplayed script (told_end (Some fault)) (line ∷ more)) (weaves_all (input Capture 2) (Some fault) []) [] b b r
+    (along_tells (begun script) f.core [] (line ∷ []) h.course.along) (woven_refused (input Capture 2) [] [] b b (woven_none (input Capture 2) b) fault b r is (idle_refl b))

@@ -6,7 +6,7 @@ use Rattle.std.specs.List.{range_with_len}
 use Rattle.std.proofs.lemmas.List.{length-map, map-append}
 use Rattle.std.proofs.lemmas.List.FromFn.{length-map-range_with_len}
 use Rattle.apf_base.specs.Causes.{Rose}
-use Rattle.apf_base.specs.Streams.{AppendsFront, AppendsAll}
+use Rattle.apf_base.specs.Streams.{AppendsPart, AppendsAll}
 use Rattle.pcap_files.specs.Capture.{capture, frame_of}
 use Rattle.pcap_files.specs.declared.kinds.Placed.{Placed}
 use Rattle.policy_state.specs.States.{start}
@@ -31,14 +31,13 @@ use Rattle.made_input.specs.MadeScripts.{doze_line, ended, made_contents, made_l
 use Rattle.made_input.proofs.Said.{said, script_short}
 use Rattle.made_input.proofs.Whole.{whole}
 use Rattle.filter_report.specs.Faults.{command_fault}
-use Rattle.command_plan.specs.declared.fault.Fault.{Fault}
 use Rattle.command_plan.specs.declared.fault.Fault.TheVariants as faults
 use Rattle.command_plan.specs.Follows.{Stage, Later, Follows}
 use Rattle.command_plan.specs.Plan.{says}
 use Rattle.command_plan.proofs.Following.{lacks, then_pick}
 use Rattle.command_plan.proofs.Saying.{all_said}
 use Rattle.command_plan.proofs.Stages.{idle_refl}
-use Rattle.command_plan.proofs.Texts.{front_said}
+use Rattle.command_plan.proofs.Texts.{part_said}
 use Rattle.apf_run.specs.Make.{IsSummary, HasBegunMade, HasEndedMade, makes, summary_lines}
 use Rattle.apf_run.specs.declared.setting.What.TheVariants.{Summary}
 use Rattle.apf_base.specs.Limits.{script_limit}
@@ -127,15 +126,15 @@ module _ (n : ℕ) (f : Reporting) (a b : Stage) (later : Later a b) (is : HasEn
       → Follows (makes Summary n) a b (Ok tt)
   totals_done left done = then_pick (IsSummary n) says Lines a b (Ok tt) are (all_said Lines a b later left (done _ is.2.0 is.2.1 is.2.2))
 
-  pub totals_fail : (result : Result (Unit {0}) ReportFault) (fault : ReportFault) → result ≡ Err fault
-      → ((c : Course) (frames lines : List (List ℕ)) → InCourse c f frames lines → result ≡ Err reports.Write → AppendsFront a.out.held b.out.held (concat (entry_lines [] [] (totals c.told))))
+  pub totals_fail : b.shelf.left ≡ a.shelf.left → (result : Result (Unit {0}) ReportFault) (fault : ReportFault) → result ≡ Err fault
+      → ((c : Course) (frames lines : List (List ℕ)) → InCourse c f frames lines → result ≡ Err reports.Write → AppendsPart a.out.held b.out.held (concat (entry_lines [] [] (totals c.told))))
       → ((result ≡ Err reports.Write → ⊥) → Keeps a.out.held b.out.held) → ((need limit : ℕ) → result ≡ Err (reports.TooLarge need limit) → ⊥)
       → (result ≡ Err reports.Write → Rose a.out.faults b.out.faults) → Follows (makes Summary n) a b (Err (command_fault fault))
-  totals_fail result (reports.TooLarge need limit) e front keeps none rose = absurd (none need limit e)
-  totals_fail result reports.OutOfMemory e front keeps none rose = lacks (makes Summary n) a b (Err faults.OutOfMemory) refl (record { later = later; held = keeps (λ w. absurd cc) })
-  totals_fail result reports.Write e front keeps none rose =
+  totals_fail left result (reports.TooLarge need limit) e front keeps none rose = absurd (none need limit e)
+  totals_fail left result reports.OutOfMemory e front keeps none rose = lacks (makes Summary n) a b (Err faults.OutOfMemory) refl (record { later = later; held = keeps (λ w. absurd cc) })
+  totals_fail left result reports.Write e front keeps none rose =
       then_pick (IsSummary n) says Lines a b (Err faults.Write) are
-      (subst (λ (l : List (List ℕ)). Follows (says l) a b (Err faults.Write)) (append-nil Lines) (front_said a b later Lines [] (rose e) (front _ is.2.0 is.2.1 is.2.2 e)))
+      (subst (λ (l : List (List ℕ)). Follows (says l) a b (Err faults.Write)) (append-nil Lines) (part_said a b later Lines [] left (rose e) (front _ is.2.0 is.2.1 is.2.2 e)))
 
 -- memory was wanting before the totals
 pub replay_fails : (n : ℕ) (s : Stage) (fault : ReportFault) → ((need limit : ℕ) → fault ≡ reports.TooLarge need limit → ⊥) → (fault ≡ reports.Write → ⊥) → Follows (makes Summary n) s s (Err (command_fault fault))

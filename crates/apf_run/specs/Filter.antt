@@ -1,27 +1,22 @@
 -- `filter`: the report of a script over a capture.
-use Rattle.std.specs.Prelude.{ℕ, ◌≤◌, List, [], ◌∷◌, nat_lt, if◌then◌else◌, Option, None, Some, Result, Ok, Err}
+use Rattle.std.specs.Prelude.{ℕ, List, [], ◌∷◌, nat_lt, if◌then◌else◌, Option, None, Some, Result, Ok, Err}
 use Rattle.apf_base.specs.Streams.{AppendsAll}
 use Rattle.policy_state.specs.declared.basis.Script.{Script}
 use Rattle.policy_state.specs.States.{start}
-use Rattle.apf_generate.specs.Ranges.{IsScript}
 use Rattle.size_fit.specs.Sizes.{base, limit_of}
 use Rattle.script_text.specs.declared.script_error.ScriptError.{ScriptError}
 use Rattle.script_text.specs.declared.script_error.ScriptError.TheVariants as scripts
 use Rattle.script_text.specs.ScriptLines.{Contents}
 use Rattle.script_text.specs.Scripts.{IsScriptText}
 use Rattle.script_text.specs.ScriptReading.{script_answer}
-use Rattle.pcap_files.specs.Capture.{capture}
-use Rattle.pcap_files.specs.declared.fault.PcapError.{PcapError}
-use Rattle.filter_core.specs.Replay.{Arrival, begun}
-use Rattle.filter_report.specs.Along.{Reporting, InCourse}
-use Rattle.filter_report.specs.Arrivals.{arrivals_of}
-use Rattle.filter_report.specs.Report.{IsReport, IsStory, Tells}
+use Rattle.filter_core.specs.Replay.{begun}
+use Rattle.filter_report.specs.Report.{Tells}
+use Rattle.filter_report.specs.Streaming.{replays}
 use Rattle.command_plan.specs.Files.{input}
-use Rattle.command_plan.specs.Plan.{Plan, ◌>>=◌, MayHold, Done, Refuse, asks, picks, says, says_some, never, unless}
+use Rattle.command_plan.specs.Plan.{Plan, ◌>>=◌, MayHold, Done, Refuse, asks, opens, picks, says, never, unless}
 use Rattle.command_plan.specs.declared.fault.FileKind.TheVariants as files
 use Rattle.command_plan.specs.declared.fault.Refusal.{Refusal}
 use Rattle.command_plan.specs.declared.fault.Refusal.TheVariants.{BadScript, TooLarge}
-use Rattle.code_commands.specs.Exec.{refusal_by}
 
 -- ---- the script
 
@@ -57,28 +52,14 @@ begins script = do
   _ ← says (line ∷ [])
   Done line
 
--- ---- the capture
-
--- Of a script and a capture: the report; where the capture has a fault, the lines up to its last whole record.
-abbrev pub TellsAll : Option PcapError → Script → List Arrival → List (List ℕ) → Type 0
-TellsAll None script arrivals lines = IsReport script arrivals lines
-TellsAll (Some fault) script arrivals lines = IsStory script arrivals lines
-
-abbrev pub IsReplayed : Script → List ℕ → List (List ℕ) → Type 0
-IsReplayed script bytes lines = TellsAll (capture bytes).end script (arrivals_of bytes (capture bytes).list) lines
-
--- the lines behind the first one
-abbrev pub replays : Script → List ℕ → List ℕ → Plan (Unit {0})
-replays script line bytes = says_some (λ more. IsReplayed script bytes (line ∷ more)) (refusal_by (capture bytes).end)
-
 -- ---- the whole
 
--- the capture of a script is asked for once the line of the first install stands
+-- the capture of a script is opened once the line of the first install stands, and taken record by record
 abbrev pub filters : Script → List ℕ → Plan (Unit {0})
 filters script capture = do
   line ← begins script
-  bytes ← asks (input files.Capture 2) capture
-  replays script line bytes
+  found ← opens (input files.Capture 2) capture
+  replays (input files.Capture 2) script line found
 
 -- `filter SCRIPT CAPTURE`
 abbrev pub filter_plan : List ℕ → List ℕ → Plan (Unit {0})
@@ -93,11 +74,3 @@ HasOnlyBegun told old new =
     (text : List ℕ) × MayHold (input files.Script 1) told text
     × (script : Script) × IsScriptText text script
     × (line : List ℕ) × IsFirstLine script line × AppendsAll old new (line ∷ [])
-
--- ---- parts of the command
-
--- a filter that has made the first install of a script, and written these lines
-pub record HasBegun (script : Script) (f : Reporting) (lines : List (List ℕ)) : Type 0 where
-  pub sound : IsScript script
-  pub fits : base script.config start ≤ limit_of script.config
-  pub course : InCourse (begun script) f [] lines

@@ -3,16 +3,15 @@
 
 ghost use Rattle.std.specs.Prelude.{◌≡◌, ◌≤◌, ◌<◌, ◌^◌, ◌∷◌, [], ℕ, List as Items, length, IfOk};
 ghost use Rattle.apf_generate.specs.Ranges.{IsScript};
-ghost use Rattle.policy_state.specs.declared.basis.Script.{Script as ScriptValue};
 ghost use Rattle.command_plan.specs.Follows.{Follows, Thinks, Writes, answer, stage};
 ghost use Rattle.command_plan.specs.Plan.{MayFetch};
-ghost use Rattle.apf_run.specs.Filter.{HasBegun, begins, filter_plan, filters, reads_script, replays};
-ghost use Rattle.apf_base.specs.Limits.{capture_limit, script_limit};
+ghost use Rattle.filter_report.specs.Streaming.{HasBegun};
+ghost use Rattle.apf_run.specs.Filter.{begins, filter_plan, filters, reads_script};
+ghost use Rattle.apf_base.specs.Limits.{script_limit};
 
 use apf_base::{Shelf, Sink, Source};
-use command_plan::{Fault, FileKind, Files, Input, Lines, Refusal};
-use filter_report::Filtering;
-use pcap_files::records;
+use command_plan::{Fault, FileKind, Files, Input, Lines, Refusal, open_capture};
+use filter_report::{Filtering, replay};
 use policy_state::Script;
 use script_text::{ScriptError, read_script};
 use std::alloc::Global;
@@ -58,30 +57,7 @@ fn begin<O: Lines>(alloc: Global, script: Script, out: &mut O) -> Result<Filteri
     Ok(filtering)
 }
 
-// Filters the whole records of a capture, and ends by its first fault.
-fn replay<O: Lines>(
-    alloc: Global,
-    mut filtering: Filtering,
-    bytes: &[u8],
-    out: &mut O,
-) -> Result<(), Fault>
-    requires short { length bytes.now ≤ capture_limit }
-    requires none { filtering.frames ≡ 0 }
-    ensures { (script : ScriptValue) (line : Items ℕ) → HasBegun script filtering (line ∷ [])
-        → Writes (replays script line bytes.now) (O.seen out.old) (O.seen out.new) result }
-{
-    let found = records(alloc, bytes)?;
-    filtering.take_all(alloc, bytes, found.list.as_slice(), out)?;
-    match found.end {
-        Some(fault) => Err(Fault::Refused(Refusal::BadCapture(fault))),
-        None => {
-            filtering.finish(alloc, out)?;
-            Ok(())
-        }
-    }
-}
-
-// Makes the first install of a script, writes its line, and then reads the capture and filters it.
+// Makes the first install of a script, writes its line, and then opens the capture and filters it.
 fn filter_by<H: Files, O: Lines>(
     alloc: Global,
     script: Script,
@@ -96,14 +72,14 @@ fn filter_by<H: Files, O: Lines>(
         (stage (H.seen shelf.new) (O.seen out.new)) result }
 {
     let filtering = begin(alloc, script, out)?;
-    let bytes = shelf.ask(alloc, capture, CAPTURE)?;
-    replay(alloc, filtering, bytes.as_slice(), out)
+    let reader = open_capture(shelf, capture, CAPTURE)?;
+    replay(alloc, filtering, reader, shelf, CAPTURE, out)
 }
 
 /// Filters a capture by a script, and writes the report, a line at a time.
 ///
-/// The line of the first install goes out before the capture is opened. A damaged capture has the lines of its whole
-/// records before the fault.
+/// The line of the first install goes out before the capture is opened, and the lines of each record before the next one
+/// is taken. A damaged capture has the lines of its whole records before the fault.
 pub fn filter<H: Files, O: Lines>(
     alloc: Global,
     script: &str,

@@ -1,7 +1,7 @@
 //! Reports of `filter`, row by row. In a wanted line S, C and T stand for a size, a code and a number of steps.
 
 use crate::running::{calls, list_of, status, words_of};
-use apf_base::{List, MemShelf, MemSink};
+use apf_base::{List, MemShelf, MemSink, fill};
 use pcap_files::{Kind, Stamp, head, put};
 use std::alloc::Global;
 use std::process::Abort;
@@ -55,7 +55,7 @@ const EVENTS: &str =
 
 /// A run of `filter`: its script, its events and the bytes of a comment behind them, its frames with their seconds, how
 /// many bytes the capture lacks at its end, the calls that fail (0 for none), and what is wanted. The wanted lines stand in
-/// the report in this order, and it has so many lines.
+/// the report in this order, it has so many lines, and so many bytes are left of the file that was opened last.
 #[derive(Clone, Copy)]
 struct Row {
     name: &'static str,
@@ -70,6 +70,7 @@ struct Row {
     status: u8,
     lines: &'static [&'static str],
     count: usize,
+    left: usize,
     err: &'static str,
 }
 
@@ -89,6 +90,7 @@ const EMPTY: Row = Row {
         "total frames 0 passed 0 dropped 0 programs 1",
     ],
     count: 2,
+    left: 0,
     err: "",
 };
 
@@ -108,7 +110,7 @@ const FIRST_LINE: Row = Row {
 };
 
 // A function, since what is proved of a test reads through each constant that it names.
-fn rows() -> [Row; 18] {
+fn rows() -> [Row; 19] {
     [
         EMPTY,
         Row {
@@ -304,17 +306,42 @@ fn rows() -> [Row; 18] {
             ..FIRST_LINE
         },
         Row {
-            name: "the second write fails",
-            frames: &[(1000, Sent::Zeros)],
+            name: "the second write fails, when one record was taken",
+            frames: &[
+                (1000, Sent::Zeros),
+                (1000, Sent::Zeros),
+                (1000, Sent::Zeros),
+            ],
             write: 2,
             status: 72,
+            left: 62,
             err: "apf_run: write failed\n",
             ..FIRST_LINE
+        },
+        Row {
+            name: "the read of the third record fails",
+            frames: &[
+                (1000, Sent::Zeros),
+                (1000, Sent::Zeros),
+                (1000, Sent::Zeros),
+            ],
+            read: 8,
+            status: 71,
+            lines: &[
+                "gen 0 at 1000 size S left none code C",
+                "frame 1 gen 0 age 0 drop DROPPED_802_3_FRAME steps T",
+                "frame 2 gen 0 age 0 drop DROPPED_802_3_FRAME steps T",
+            ],
+            count: 3,
+            left: 31,
+            err: "apf_run: read failed\n",
+            ..EMPTY
         },
         Row {
             name: "the first read fails",
             read: 1,
             status: 71,
+            left: 74,
             err: "apf_run: read failed\n",
             ..REFUSED
         },
@@ -431,6 +458,9 @@ fn check_row(rt: &impl Abort, alloc: Global, row: &Row) -> Result<(), Fail> {
     assert_eq!(rt; err.bytes(), row.err.as_bytes(), "{name}");
     check_lines(rt, row, out.bytes());
     assert_eq!(rt; answer, row.status, "{name}");
+    // Of the file that was opened last exactly what the report stands on was taken.
+    let left = fill(&mut shelf, &mut [0u8; 128])?;
+    assert_eq!(rt; left, row.left, "{name}");
     Ok(())
 }
 

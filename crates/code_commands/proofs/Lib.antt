@@ -1,3 +1,3 @@
 pub mod Coding
-pub mod FrameLines
+pub mod Course
 pub mod Sound

@@ -5,21 +5,28 @@ use Rattle.std.specs.List.{concat}
 use Rattle.std.specs.Io.KnownBytes.{Keeps, IsAtEnd}
 use Rattle.std.proofs.KnownBytes.{Keeps-trans}
 use Rattle.apf_base.specs.Causes.{Rose}
-use Rattle.apf_base.specs.Streams.{AppendsAll}
+use Rattle.apf_base.specs.Streams.{AppendsAll, AppendsFront}
 use Rattle.command_plan.specs.declared.fault.Refusal.{Refusal}
 use Rattle.command_plan.specs.declared.fault.Refusal.TheVariants.{BadCapture, BadScript, BadText, Twice, Unknown, Backward, TooLong, CodeTooLong, TooLarge}
 use Rattle.command_plan.specs.declared.fault.Fault.{Fault}
 use Rattle.command_plan.specs.declared.fault.Fault.TheVariants as faults
+use Rattle.command_plan.specs.Amounts.{Amount, whole_record, the_end, a_fault, IsTakenOf, comes_to_end}
 use Rattle.command_plan.specs.Files.{FileFails}
 use Rattle.command_plan.specs.declared.fault.Input.{Input}
 use Rattle.command_plan.specs.Ending.{MayEnd, Leaves, IsOwn, Calm}
 use Rattle.command_plan.specs.Meaning.{CommandMeaning, nothing, command, IsAccepted, Does, IsQuietFor, MayEndBy, ReadsWholeFor}
 use Rattle.command_plan.specs.Status.{status_of, refusal_status}
-use Rattle.command_plan.specs.Plan.{Plan, Done, Refuse, Ask, Pick, Say, IsQuiet, MayRefuse, ReadsWhole}
-use Rattle.command_plan.specs.Follows.{Stage, Later, Asks, Picks, Says, Ends, Follows}
+use Rattle.command_plan.specs.Plan.{Plan, Done, Refuse, Ask, OpenCapture, TakeNext, Pick, Say, IsQuiet, MayRefuse, ReadsWhole}
+use Rattle.command_plan.specs.Follows.{Stage, Later, Follows}
 use Rattle.command_plan.specs.Follows as f
 use Rattle.command_plan.proofs.Saying.{all_and_all, all_and_front}
-use Rattle.command_plan.proofs.Stages.{later_trans, rose_before, Appends-before, front_before, keeps_nil, no_fault}
+use Rattle.command_plan.proofs.Stages.{later_trans, rose_before, Appends-before, front_before, keeps_nil, no_fault, part_front}
+
+-- where the end was to be taken, it was come to
+come_to_end : (amount : Amount) (left now : Option (List ℕ)) → IsTakenOf amount left now → IsTrue (comes_to_end amount) → IsAtEnd now
+come_to_end (whole_record size) left now taken ends = absurd (cc)
+come_to_end the_end left now taken ends = taken
+come_to_end a_fault left now taken ends = absurd (cc)
 
 module _ {A : Type 0} where
   -- no count fell, and the files are the same
@@ -34,10 +41,17 @@ module _ {A : Type 0} where
   later (Ask input path rest) a b r (f.Asks.unread h rose) = h.idle.later
   later (Ask input path rest) a b r (f.Asks.too_long h told) = h.idle.later
   later (Ask input path rest) a b r (f.Asks.asked bytes c held idle whole more) = later_trans a c b idle.later (later (rest bytes) c b r more)
+  later (OpenCapture input path rest) a b r (f.Opens.no_memory h) = h.idle.later
+  later (OpenCapture input path rest) a b r (f.Opens.unopened h rose) = h.idle.later
+  later (OpenCapture input path rest) a b r (f.Opens.unread h rose) = h.idle.later
+  later (OpenCapture input path rest) a b r (f.Opens.opened found c tells idle behind more) = later_trans a c b idle.later (later (rest found) c b r more)
+  later (TakeNext input amount rest) a b r (f.Takes.no_memory h) = h.idle.later
+  later (TakeNext input amount rest) a b r (f.Takes.unread h rose) = h.idle.later
+  later (TakeNext input amount rest) a b r (f.Takes.taken c idle took more) = later_trans a c b idle.later (later rest c b r more)
   later (Pick P rest) a b r (f.Picks.no_memory h) = h.idle.later
   later (Pick P rest) a b r (f.Picks.picked x has more) = later (rest x) a b r more
   later (Say lines rest) a b r (f.Says.no_memory is l first) = l
-  later (Say lines rest) a b r (f.Says.unwritten is l rose front) = l
+  later (Say lines rest) a b r (f.Says.unwritten is l left rose part) = l
   later (Say lines rest) a b r (f.Says.said c l left appends more) = later_trans a c b l (later rest c b r more)
 
   -- ---- causes from outside
@@ -73,10 +87,17 @@ module _ {A : Type 0} where
   owes (Ask input path rest) a b r (f.Asks.unread h rose) = owes_at a b r (Err (faults.Read input)) h.is rose
   owes (Ask input path rest) a b r (f.Asks.too_long h told) = owes_at a b r (Err (faults.Refused (TooLong input))) h.is tt
   owes (Ask input path rest) a b r (f.Asks.asked bytes c held idle whole more) = owes_before a c b r idle.later (owes (rest bytes) c b r more)
+  owes (OpenCapture input path rest) a b r (f.Opens.no_memory h) = owes_at a b r (Err faults.OutOfMemory) h.is tt
+  owes (OpenCapture input path rest) a b r (f.Opens.unopened h rose) = owes_at a b r (Err (faults.Open input)) h.is rose
+  owes (OpenCapture input path rest) a b r (f.Opens.unread h rose) = owes_at a b r (Err (faults.Read input)) h.is rose
+  owes (OpenCapture input path rest) a b r (f.Opens.opened found c tells idle behind more) = owes_before a c b r idle.later (owes (rest found) c b r more)
+  owes (TakeNext input amount rest) a b r (f.Takes.no_memory h) = owes_at a b r (Err faults.OutOfMemory) h.is tt
+  owes (TakeNext input amount rest) a b r (f.Takes.unread h rose) = owes_at a b r (Err (faults.Read input)) h.is rose
+  owes (TakeNext input amount rest) a b r (f.Takes.taken c idle took more) = owes_before a c b r idle.later (owes rest c b r more)
   owes (Pick P rest) a b r (f.Picks.no_memory h) = owes_at a b r (Err faults.OutOfMemory) h.is tt
   owes (Pick P rest) a b r (f.Picks.picked x has more) = owes (rest x) a b r more
   owes (Say lines rest) a b r (f.Says.no_memory is l first) = owes_at a b r (Err faults.OutOfMemory) is tt
-  owes (Say lines rest) a b r (f.Says.unwritten is l rose front) = owes_at a b r (Err faults.Write) is rose
+  owes (Say lines rest) a b r (f.Says.unwritten is l left rose part) = owes_at a b r (Err faults.Write) is rose
   owes (Say lines rest) a b r (f.Says.said c l left appends more) = owes_before a c b r l (owes rest c b r more)
 
   -- ---- what stands on the sink
@@ -135,13 +156,31 @@ module _ {A : Type 0} where
         inr (bytes, held, may_end_at (rest bytes) a c all.0 r idle.later all.1),
         leaves_kept a.out.held c.out.held b.out.held all.0 r idle.held all.2,
       )
+  stands (OpenCapture input path rest) a b r (f.Opens.no_memory h) =
+      ([], inl (refl, faults.OutOfMemory, h.is, tt), leaves_nothing a.out.held b.out.held r h.idle.held)
+  stands (OpenCapture input path rest) a b r (f.Opens.unopened h rose) =
+      ([], inl (refl, faults.Open input, h.is, refl), leaves_nothing a.out.held b.out.held r h.idle.held)
+  stands (OpenCapture input path rest) a b r (f.Opens.unread h rose) =
+      ([], inl (refl, faults.Read input, h.is, refl), leaves_nothing a.out.held b.out.held r h.idle.held)
+  stands (OpenCapture input path rest) a b r (f.Opens.opened found c tells idle behind more) =
+      let all = stands (rest found) c b r more in (
+        all.0,
+        inr (found, tells, may_end_at (rest found) a c all.0 r idle.later all.1),
+        leaves_kept a.out.held c.out.held b.out.held all.0 r idle.held all.2,
+      )
+  stands (TakeNext input amount rest) a b r (f.Takes.no_memory h) = ([], inl (refl, inl h.is), leaves_nothing a.out.held b.out.held r h.idle.held)
+  stands (TakeNext input amount rest) a b r (f.Takes.unread h rose) = ([], inl (refl, inr h.is), leaves_nothing a.out.held b.out.held r h.idle.held)
+  stands (TakeNext input amount rest) a b r (f.Takes.taken c idle took more) =
+      let all = stands rest c b r more in
+      (all.0, inr (may_end_at rest a c all.0 r idle.later all.1), leaves_kept a.out.held c.out.held b.out.held all.0 r idle.held all.2)
   stands (Pick P rest) a b r (f.Picks.no_memory h) = ([], inl (refl, inl h.is), leaves_nothing a.out.held b.out.held r h.idle.held)
   stands (Pick P rest) a b r (f.Picks.picked x has more) =
       let all = stands (rest x) a b r more in
       (all.0, inr (x, has, all.1), all.2)
   stands (Say lines rest) a b r (f.Says.no_memory is l first) =
       (first.0, inl ((first.1, first.2), inl is), leaves_at a.out.held b.out.held first.0 r (Err faults.OutOfMemory) is first.3)
-  stands (Say lines rest) a b r (f.Says.unwritten is l rose front) =
+  stands (Say lines rest) a b r (f.Says.unwritten is l left rose part) =
+      let front : AppendsFront a.out.held b.out.held (concat lines) = part_front a.out.held b.out.held (concat lines) part in
       (lines, inl (([], sym (append-nil lines)), inr is), leaves_at a.out.held b.out.held lines r (Err faults.Write) is front)
   stands (Say lines rest) a b r (f.Says.said c l left appends more) =
       let all = stands rest c b r more in (
@@ -174,35 +213,45 @@ module _ {A : Type 0} where
   own_written : (r : Result A Fault) → IsOwn r → r ≡ Err faults.Write → ⊥
   own_written r o is = subst (λ (e : Result A Fault). IsOwn e) is o
 
-  -- ---- the file that was asked for last
+  -- ---- the file that was opened last
 
   -- with an answer it was read whole
-  pub read_whole : (p : Plan A) (asked : Bool) (a b : Stage) (x : A) → ReadsWhole asked p → (IsTrue asked → IsAtEnd a.shelf.left) → Follows p a b (Ok x) → IsAtEnd b.shelf.left
+  pub read_whole : (p : Plan A) (whole : Bool) (a b : Stage) (x : A) → ReadsWhole whole p → (IsTrue whole → IsAtEnd a.shelf.left) → Follows p a b (Ok x) → IsAtEnd b.shelf.left
   unfolding Follows ReadsWhole
-  read_whole (Done y) asked a b x h at (f.Ends.no_memory e) = no_fault faults.OutOfMemory a b x e
-  read_whole (Done y) asked a b x h at (f.Ends.ended is s) = subst IsAtEnd (sym s.left) (at h)
-  read_whole (Refuse refusal) asked a b x h at (f.Ends.no_memory e) = no_fault faults.OutOfMemory a b x e
-  read_whole (Refuse refusal) asked a b x h at (f.Ends.ended is s) = absurd (cc)
-  read_whole (Ask input path rest) asked a b x h at (f.Asks.no_memory e) = no_fault faults.OutOfMemory a b x e
-  read_whole (Ask input path rest) asked a b x h at (f.Asks.unopened e rose) = no_fault (faults.Open input) a b x e
-  read_whole (Ask input path rest) asked a b x h at (f.Asks.unread e rose) = no_fault (faults.Read input) a b x e
-  read_whole (Ask input path rest) asked a b x h at (f.Asks.too_long e told) = no_fault (faults.Refused (TooLong input)) a b x e
-  read_whole (Ask input path rest) asked a b x h at (f.Asks.asked bytes c held idle end more) = read_whole (rest bytes) true c b x (h bytes) (λ _. end) more
-  read_whole (Pick P rest) asked a b x h at (f.Picks.no_memory e) = no_fault faults.OutOfMemory a b x e
-  read_whole (Pick P rest) asked a b x h at (f.Picks.picked y has more) = read_whole (rest y) asked a b x (h y has) at more
-  read_whole (Say lines rest) asked a b x h at (f.Says.no_memory is l first) = absurd (cc)
-  read_whole (Say lines rest) asked a b x h at (f.Says.unwritten is l rose front) = absurd (cc)
-  read_whole (Say lines rest) asked a b x h at (f.Says.said c l left appends more) = read_whole rest asked c b x h (λ t. subst IsAtEnd (sym left) (at t)) more
+  read_whole (Done y) whole a b x h at (f.Ends.no_memory e) = no_fault faults.OutOfMemory a b x e
+  read_whole (Done y) whole a b x h at (f.Ends.ended is s) = subst IsAtEnd (sym s.left) (at h)
+  read_whole (Refuse refusal) whole a b x h at (f.Ends.no_memory e) = no_fault faults.OutOfMemory a b x e
+  read_whole (Refuse refusal) whole a b x h at (f.Ends.ended is s) = absurd (cc)
+  read_whole (Ask input path rest) whole a b x h at (f.Asks.no_memory e) = no_fault faults.OutOfMemory a b x e
+  read_whole (Ask input path rest) whole a b x h at (f.Asks.unopened e rose) = no_fault (faults.Open input) a b x e
+  read_whole (Ask input path rest) whole a b x h at (f.Asks.unread e rose) = no_fault (faults.Read input) a b x e
+  read_whole (Ask input path rest) whole a b x h at (f.Asks.too_long e told) = no_fault (faults.Refused (TooLong input)) a b x e
+  read_whole (Ask input path rest) whole a b x h at (f.Asks.asked bytes c held idle end more) = read_whole (rest bytes) true c b x (h bytes) (λ _. end) more
+  read_whole (OpenCapture input path rest) whole a b x h at (f.Opens.no_memory e) = no_fault faults.OutOfMemory a b x e
+  read_whole (OpenCapture input path rest) whole a b x h at (f.Opens.unopened e rose) = no_fault (faults.Open input) a b x e
+  read_whole (OpenCapture input path rest) whole a b x h at (f.Opens.unread e rose) = no_fault (faults.Read input) a b x e
+  read_whole (OpenCapture input path rest) whole a b x h at (f.Opens.opened found c tells idle behind more) =
+      read_whole (rest found) false c b x (h found) (λ t. absurd (cc)) more
+  read_whole (TakeNext input amount rest) whole a b x h at (f.Takes.no_memory e) = no_fault faults.OutOfMemory a b x e
+  read_whole (TakeNext input amount rest) whole a b x h at (f.Takes.unread e rose) = no_fault (faults.Read input) a b x e
+  read_whole (TakeNext input amount rest) whole a b x h at (f.Takes.taken c idle took more) =
+      read_whole rest (comes_to_end amount) c b x h (come_to_end amount a.shelf.left c.shelf.left took) more
+  read_whole (Pick P rest) whole a b x h at (f.Picks.no_memory e) = no_fault faults.OutOfMemory a b x e
+  read_whole (Pick P rest) whole a b x h at (f.Picks.picked y has more) = read_whole (rest y) whole a b x (h y has) at more
+  read_whole (Say lines rest) whole a b x h at (f.Says.no_memory is l first) = absurd (cc)
+  read_whole (Say lines rest) whole a b x h at (f.Says.unwritten is l left rose part) = absurd (cc)
+  read_whole (Say lines rest) whole a b x h at (f.Says.said c l left appends more) = read_whole rest whole c b x h (λ t. subst IsAtEnd (sym left) (at t)) more
 
 -- ---- plans that read and check everything before they write
 
-module _ {A : Type 0} where
-  -- an end before the lines of such a plan
+module _ {A : Type 0} (by_and_by : Bool) where
+  -- an end before the lines of such a plan; where it takes its capture by and by, a failed read may come later
   abbrev pub IsEarly : Result A Fault → Type 0
   IsEarly (Ok x) = ⊥
   IsEarly (Err (faults.Refused (BadCapture fault))) = ⊥
   IsEarly (Err faults.OutOfMemory) = ⊥
   IsEarly (Err faults.Write) = ⊥
+  IsEarly (Err (faults.Read input)) = IsTrue by_and_by → ⊥
   IsEarly end = ⊤
 
   never_early : {P : Type 0} (r end : Result A Fault) → r ≡ end → (IsEarly end → ⊥) → IsEarly r → P
@@ -220,21 +269,25 @@ module _ {A : Type 0} where
   of_capture p (TooLarge need limit) may early = may
 
   -- behind its lines it doesn't end so
-  loud : (p : Plan A) (a b : Stage) (r : Result A Fault) → IsQuiet true p → Follows p a b r → IsEarly r → ⊥
+  loud : (p : Plan A) (a b : Stage) (r : Result A Fault) → IsQuiet by_and_by true p → Follows p a b r → IsEarly r → ⊥
   unfolding Follows IsQuiet
   loud (Done x) a b r q (f.Ends.no_memory h) = never_early r (Err faults.OutOfMemory) h.is (λ e. e)
   loud (Done x) a b r q (f.Ends.ended is s) = never_early r (Ok x) is (λ e. e)
   loud (Refuse refusal) a b r q (f.Ends.no_memory h) = never_early r (Err faults.OutOfMemory) h.is (λ e. e)
   loud (Refuse refusal) a b r q (f.Ends.ended is s) = never_early r (Err (faults.Refused refusal)) is (of_capture (Refuse refusal) refusal q)
   loud (Ask input path rest) a b r q h = absurd q.0
+  loud (OpenCapture input path rest) a b r q h = absurd q.0
+  loud (TakeNext input amount rest) a b r q (f.Takes.no_memory h) = never_early r (Err faults.OutOfMemory) h.is (λ e. e)
+  loud (TakeNext input amount rest) a b r q (f.Takes.unread h rose) = never_early r (Err (faults.Read input)) h.is (λ e. e q.0)
+  loud (TakeNext input amount rest) a b r q (f.Takes.taken c idle took more) = loud rest c b r q.1 more
   loud (Pick P rest) a b r q (f.Picks.no_memory h) = never_early r (Err faults.OutOfMemory) h.is (λ e. e)
   loud (Pick P rest) a b r q (f.Picks.picked x has more) = loud (rest x) a b r (q x has) more
   loud (Say lines rest) a b r q (f.Says.no_memory is l first) = never_early r (Err faults.OutOfMemory) is (λ e. e)
-  loud (Say lines rest) a b r q (f.Says.unwritten is l rose front) = never_early r (Err faults.Write) is (λ e. e)
+  loud (Say lines rest) a b r q (f.Says.unwritten is l left rose part) = never_early r (Err faults.Write) is (λ e. e)
   loud (Say lines rest) a b r q (f.Says.said c l left appends more) = loud rest c b r q more
 
   -- before them it has written nothing
-  quiet : (p : Plan A) (a b : Stage) (r : Result A Fault) → IsQuiet false p → Follows p a b r → IsEarly r → Keeps a.out.held b.out.held
+  quiet : (p : Plan A) (a b : Stage) (r : Result A Fault) → IsQuiet by_and_by false p → Follows p a b r → IsEarly r → Keeps a.out.held b.out.held
   unfolding Follows IsQuiet
   quiet (Done x) a b r q (f.Ends.no_memory h) early = h.idle.held
   quiet (Done x) a b r q (f.Ends.ended is s) early = s.idle.held
@@ -246,28 +299,39 @@ module _ {A : Type 0} where
   quiet (Ask input path rest) a b r q (f.Asks.too_long h told) early = h.idle.held
   quiet (Ask input path rest) a b r q (f.Asks.asked bytes c held idle whole more) early =
       Keeps-trans a.out.held c.out.held b.out.held idle.held (quiet (rest bytes) c b r (q.1 bytes) more early)
+  quiet (OpenCapture input path rest) a b r q (f.Opens.no_memory h) early = h.idle.held
+  quiet (OpenCapture input path rest) a b r q (f.Opens.unopened h rose) early = h.idle.held
+  quiet (OpenCapture input path rest) a b r q (f.Opens.unread h rose) early = h.idle.held
+  quiet (OpenCapture input path rest) a b r q (f.Opens.opened found c tells idle behind more) early =
+      Keeps-trans a.out.held c.out.held b.out.held idle.held (quiet (rest found) c b r (q.1 found) more early)
+  quiet (TakeNext input amount rest) a b r q (f.Takes.no_memory h) early = h.idle.held
+  quiet (TakeNext input amount rest) a b r q (f.Takes.unread h rose) early = h.idle.held
+  quiet (TakeNext input amount rest) a b r q (f.Takes.taken c idle took more) early =
+      Keeps-trans a.out.held c.out.held b.out.held idle.held (quiet rest c b r q.1 more early)
   quiet (Pick P rest) a b r q (f.Picks.no_memory h) early = h.idle.held
   quiet (Pick P rest) a b r q (f.Picks.picked x has more) early = quiet (rest x) a b r (q x has) more early
   quiet (Say lines rest) a b r q (f.Says.no_memory is l first) early = never_early r (Err faults.OutOfMemory) is (λ e. e) early
-  quiet (Say lines rest) a b r q (f.Says.unwritten is l rose front) early = never_early r (Err faults.Write) is (λ e. e) early
+  quiet (Say lines rest) a b r q (f.Says.unwritten is l left rose part) early = never_early r (Err faults.Write) is (λ e. e) early
   quiet (Say lines rest) a b r q (f.Says.said c l left appends more) early = absurd (loud rest c b r q more early)
 
-by_status : (end : Result (Unit {0}) Fault) → (status_of end ≡ 0 → ⊥) → (status_of end ≡ 65 → ⊥) → (status_of end ≡ 70 → ⊥) → (status_of end ≡ 72 → ⊥) → IsEarly end
-by_status (Ok x) ok capture memory write = ok refl
-by_status (Err (faults.Refused (BadCapture fault))) ok capture memory write = capture refl
-by_status (Err (faults.Refused (BadScript line kind))) ok capture memory write = tt
-by_status (Err (faults.Refused (BadText line kind))) ok capture memory write = tt
-by_status (Err (faults.Refused (Twice item label))) ok capture memory write = tt
-by_status (Err (faults.Refused (Unknown item label))) ok capture memory write = tt
-by_status (Err (faults.Refused (Backward item label))) ok capture memory write = tt
-by_status (Err (faults.Refused (TooLong input))) ok capture memory write = tt
-by_status (Err (faults.Refused CodeTooLong)) ok capture memory write = tt
-by_status (Err (faults.Refused (TooLarge need limit))) ok capture memory write = tt
-by_status (Err faults.OutOfMemory) ok capture memory write = memory refl
-by_status (Err faults.Usage) ok capture memory write = tt
-by_status (Err (faults.Read input)) ok capture memory write = tt
-by_status (Err faults.Write) ok capture memory write = write refl
-by_status (Err (faults.Open input)) ok capture memory write = tt
+module _ (by_and_by : Bool) where
+  by_status : (end : Result (Unit {0}) Fault) → (status_of end ≡ 0 → ⊥) → (status_of end ≡ 65 → ⊥) → (status_of end ≡ 70 → ⊥) → (status_of end ≡ 72 → ⊥)
+      → (IsTrue by_and_by → status_of end ≡ 71 → ⊥) → IsEarly by_and_by end
+  by_status (Ok x) ok capture memory write read = ok refl
+  by_status (Err (faults.Refused (BadCapture fault))) ok capture memory write read = capture refl
+  by_status (Err (faults.Refused (BadScript line kind))) ok capture memory write read = tt
+  by_status (Err (faults.Refused (BadText line kind))) ok capture memory write read = tt
+  by_status (Err (faults.Refused (Twice item label))) ok capture memory write read = tt
+  by_status (Err (faults.Refused (Unknown item label))) ok capture memory write read = tt
+  by_status (Err (faults.Refused (Backward item label))) ok capture memory write read = tt
+  by_status (Err (faults.Refused (TooLong input))) ok capture memory write read = tt
+  by_status (Err (faults.Refused CodeTooLong)) ok capture memory write read = tt
+  by_status (Err (faults.Refused (TooLarge need limit))) ok capture memory write read = tt
+  by_status (Err faults.OutOfMemory) ok capture memory write read = memory refl
+  by_status (Err faults.Usage) ok capture memory write read = tt
+  by_status (Err (faults.Read input)) ok capture memory write read = λ taken. read taken refl
+  by_status (Err faults.Write) ok capture memory write read = write refl
+  by_status (Err (faults.Open input)) ok capture memory write read = tt
 
 -- ---- statuses
 
@@ -349,6 +413,15 @@ ended_well (Err (faults.Read input)) is = absurd (omega arith)
 ended_well (Err faults.Write) is = absurd (omega arith)
 ended_well (Err (faults.Open input)) is = absurd (omega arith)
 
+pub ended_unwritten : (end : Result (Unit {0}) Fault) → status_of end ≡ 72 → end ≡ Err faults.Write
+ended_unwritten (Err faults.Write) is = refl
+ended_unwritten (Ok x) is = absurd (omega arith)
+ended_unwritten (Err (faults.Refused refusal)) is = absurd (omega (arith, (refusal_between refusal).1))
+ended_unwritten (Err faults.OutOfMemory) is = absurd (omega arith)
+ended_unwritten (Err faults.Usage) is = absurd (omega arith)
+ended_unwritten (Err (faults.Read input)) is = absurd (omega arith)
+ended_unwritten (Err (faults.Open input)) is = absurd (omega arith)
+
 at_end : (p : Plan (Unit {0})) (a b : Stage) (end : Result (Unit {0}) Fault) → Follows p a b end → status_of end ≡ 0 → ReadsWhole false p → IsAtEnd b.shelf.left
 at_end p a b end h is whole = read_whole p false a b tt whole (λ t. absurd (cc)) (subst (λ (e : Result (Unit {0}) Fault). Follows p a b e) (ended_well end is) h)
 
@@ -413,7 +486,8 @@ module _ (a b : Stage) (end : Result (Unit {0}) Fault) where
   does_whole nothing h is whole = absurd whole
   does_whole (command p) h is whole = at_end p a b end h is whole
 
-  pub does_quiet : (m : CommandMeaning) → Does m a b end → IsQuietFor m → (status_of end ≡ 0 → ⊥) → (status_of end ≡ 65 → ⊥) → (status_of end ≡ 70 → ⊥) → (status_of end ≡ 72 → ⊥) → Keeps a.out.held b.out.held
-  does_quiet nothing (f.Ends.no_memory h) q ok capture memory write = h.idle.held
-  does_quiet nothing (f.Ends.ended is s) q ok capture memory write = s.idle.held
-  does_quiet (command p) h q ok capture memory write = quiet p a b end q h (by_status end ok capture memory write)
+  pub does_quiet : (by_and_by : Bool) (m : CommandMeaning) → Does m a b end → IsQuietFor by_and_by m → (status_of end ≡ 0 → ⊥) → (status_of end ≡ 65 → ⊥)
+      → (status_of end ≡ 70 → ⊥) → (status_of end ≡ 72 → ⊥) → (IsTrue by_and_by → status_of end ≡ 71 → ⊥) → Keeps a.out.held b.out.held
+  does_quiet by_and_by nothing (f.Ends.no_memory h) q ok capture memory write read = h.idle.held
+  does_quiet by_and_by nothing (f.Ends.ended is s) q ok capture memory write read = s.idle.held
+  does_quiet by_and_by (command p) h q ok capture memory write read = quiet by_and_by p a b end q h (by_status by_and_by end ok capture memory write read)

@@ -6,7 +6,8 @@ use Rattle.command_plan.specs.declared.fault.Refusal.TheVariants.{TooLong}
 use Rattle.command_plan.specs.Files.{file_limit}
 use Rattle.command_plan.specs.Follows.{Shelving, Sinking, Stage, Follows, Reads, Thinks, Writes, shelving, sinking, stage}
 use Rattle.command_plan.specs.Follows as f
-use Rattle.command_plan.specs.Plan.{Plan, Done, Refuse, Ask, Pick, Say, ◌>>=◌, asks, picks, says, MayFetch, MayHold}
+use Rattle.pcap_files.specs.Stream.{Told}
+use Rattle.command_plan.specs.Plan.{Plan, Done, Refuse, Ask, OpenCapture, TakeNext, Pick, Say, opens, ◌>>=◌, asks, picks, says, MayFetch, MayHold}
 use Rattle.command_plan.proofs.Stages.{no_fault}
 
 module _ {A : Type 0} (may : List ℕ → Type 0) where
@@ -17,6 +18,10 @@ module _ {A : Type 0} (may : List ℕ → Type 0) where
   pub behind_ask : (input : Input) (path : List ℕ) (next : List ℕ → Plan A) (bytes : List ℕ) → MayFetch may (asks input path >>= next) → MayFetch may (next bytes)
   unfolding MayFetch ◌>>=◌
   behind_ask input path next bytes h = h.1 bytes
+
+  pub may_open : (input : Input) (path : List ℕ) (next : Told → Plan A) → MayFetch may (opens input path >>= next) → may path
+  unfolding MayFetch ◌>>=◌
+  may_open input path next h = h.0
 
   -- behind a plan that was followed to its answer
   pub behind : {B : Type 0} (p : Plan B) (next : B → Plan A) (x : B) (a b : Stage) → Follows p a b (Ok x) → MayFetch may (p >>= next) → MayFetch may (next x)
@@ -32,10 +37,17 @@ module _ {A : Type 0} (may : List ℕ → Type 0) where
   behind (Ask input path rest) next x a b (f.Asks.unread e rose) h = no_fault (faults.Read input) a b x e
   behind (Ask input path rest) next x a b (f.Asks.too_long e told) h = no_fault (faults.Refused (TooLong input)) a b x e
   behind (Ask input path rest) next x a b (f.Asks.asked bytes c held idle whole more) h = behind (rest bytes) next x c b more (h.1 bytes)
+  behind (OpenCapture input path rest) next x a b (f.Opens.no_memory e) h = no_fault faults.OutOfMemory a b x e
+  behind (OpenCapture input path rest) next x a b (f.Opens.unopened e rose) h = no_fault (faults.Open input) a b x e
+  behind (OpenCapture input path rest) next x a b (f.Opens.unread e rose) h = no_fault (faults.Read input) a b x e
+  behind (OpenCapture input path rest) next x a b (f.Opens.opened found c tells idle head more) h = behind (rest found) next x c b more (h.1 found)
+  behind (TakeNext input amount rest) next x a b (f.Takes.no_memory e) h = no_fault faults.OutOfMemory a b x e
+  behind (TakeNext input amount rest) next x a b (f.Takes.unread e rose) h = no_fault (faults.Read input) a b x e
+  behind (TakeNext input amount rest) next x a b (f.Takes.taken c idle amounts more) h = behind rest next x c b more h
   behind (Pick P rest) next x a b (f.Picks.no_memory e) h = no_fault faults.OutOfMemory a b x e
   behind (Pick P rest) next x a b (f.Picks.picked y has more) h = behind (rest y) next x a b more (h y has)
   behind (Say lines rest) next x a b (f.Says.no_memory is later first) h = absurd (cc)
-  behind (Say lines rest) next x a b (f.Says.unwritten is later rose front) h = absurd (cc)
+  behind (Say lines rest) next x a b (f.Says.unwritten is later left rose part) h = absurd (cc)
   behind (Say lines rest) next x a b (f.Says.said c later left appends more) h = behind rest next x c b more h
 
   pub behind_read : {B : Type 0} (p : Plan B) (next : B → Plan A) (x : B) (a b : Shelving) → Reads p a b (Ok x) → MayFetch may (p >>= next) → MayFetch may (next x)

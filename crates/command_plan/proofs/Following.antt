@@ -1,5 +1,5 @@
 -- How a call that follows a plan is put together from its steps.
-use Rattle.std.proofs.Common.{◌≡◌, ◌<◌, ℕ, List, length, Result, Ok, Err, ap, subst, ◌∙◌}
+use Rattle.std.proofs.Common.{◌≡◌, ◌<◌, ℕ, List, length, Option, Result, Ok, Err, ap, subst, ◌∙◌}
 use Rattle.std.specs.List.{concat}
 use Rattle.std.specs.Result.{IsErrAnd}
 use Rattle.std.proofs.lemmas.Result.{err_from_is_err_and}
@@ -9,14 +9,27 @@ use Rattle.command_plan.specs.declared.fault.Refusal.{Refusal}
 use Rattle.command_plan.specs.declared.fault.Refusal.TheVariants.{TooLong}
 use Rattle.command_plan.specs.declared.fault.Fault.{Fault}
 use Rattle.command_plan.specs.declared.fault.Fault.TheVariants as faults
-use Rattle.command_plan.specs.Plan.{Plan, Done, Refuse, Ask, Pick, Say, MayHold, ◌>>=◌, picks}
+use Rattle.command_plan.specs.Plan.{Plan, Done, Refuse, Ask, OpenCapture, TakeNext, Pick, Say, MayHold, MayTell, ◌>>=◌, picks}
+use Rattle.pcap_files.specs.Stream.{Told, told}
+use Rattle.command_plan.specs.Amounts.{Amount, IsTakenOf, IsBehindHead}
 use Rattle.command_plan.specs.Follows.{Stage, Later, Idle, Rests, EndsHere, Asks, Picks, Says, Ends, Follows}
 use Rattle.command_plan.specs.Follows as f
-use Rattle.command_plan.proofs.Stages.{later_trans, idle_refl, idle_trans, rests_refl, rests_trans, rose_before, told_before, Appends-before, front_before, first_before, none_first, ends_before, ends_as, no_fault, same_fault}
+use Rattle.command_plan.proofs.Stages.{later_trans, idle_refl, idle_trans, rests_refl, rests_trans, rose_before, told_before, Appends-before, part_before, first_before, none_first, ends_before, ends_as, no_fault, same_fault}
 
 -- what a file may hold was told before too
 held_before : (input : Input) (path bytes : List ℕ) (a c : Stage) → Later a c → MayHold input (c.shelf.file path) bytes → MayHold input (a.shelf.file path) bytes
 held_before input path bytes a c later h = record { fits = h.fits; are = h.are; same = told_before a c later path (λ all. bytes ≡ all) h.same }
+
+-- and what a capture may tell, and what stands behind its header
+tells_before : (path : List ℕ) (found : Told) (a c : Stage) → Later a c → MayTell (c.shelf.file path) found → MayTell (a.shelf.file path) found
+tells_before path found a c later h = record { are = h.are; same = told_before a c later path (λ all. found ≡ told all) h.same }
+
+head_before : (path : List ℕ) (left : Option (List ℕ)) (a c : Stage) → Later a c → IsBehindHead (c.shelf.file path) left → IsBehindHead (a.shelf.file path) left
+head_before path left a c later h = subst (λ (f : List ℕ → Option (List ℕ)). IsBehindHead (f path) left) later.files h
+
+-- as much was taken of what was left before
+taken_before : (amount : Amount) (now : Option (List ℕ)) (a c : Stage) → c.shelf.left ≡ a.shelf.left → IsTakenOf amount c.shelf.left now → IsTakenOf amount a.shelf.left now
+taken_before amount now a c left h = subst (λ (l : Option (List ℕ)). IsTakenOf amount l now) left h
 
 module _ {A : Type 0} where
   -- nothing was done before
@@ -35,13 +48,25 @@ module _ {A : Type 0} where
       f.Asks.too_long (ends_before (Err (faults.Refused (TooLong input))) a c b r s.idle h) (told_before a c s.idle.later path (λ told. file_limit input.kind < length told) told)
   before (Ask input path rest) a c b r s (f.Asks.asked bytes d held idle whole more) =
       f.Asks.asked bytes d (held_before input path bytes a c s.idle.later held) (idle_trans a c d s.idle idle) whole more
+  before (OpenCapture input path rest) a c b r s (f.Opens.no_memory h) = f.Opens.no_memory (ends_before (Err faults.OutOfMemory) a c b r s.idle h)
+  before (OpenCapture input path rest) a c b r s (f.Opens.unopened h rose) =
+      f.Opens.unopened (ends_before (Err (faults.Open input)) a c b r s.idle h) (rose_before a.shelf.misses c.shelf.misses b.shelf.misses s.idle.later.misses rose)
+  before (OpenCapture input path rest) a c b r s (f.Opens.unread h rose) =
+      f.Opens.unread (ends_before (Err (faults.Read input)) a c b r s.idle h) (rose_before a.shelf.faults c.shelf.faults b.shelf.faults s.idle.later.faults rose)
+  before (OpenCapture input path rest) a c b r s (f.Opens.opened found d tells idle behind more) =
+      f.Opens.opened found d (tells_before path found a c s.idle.later tells) (idle_trans a c d s.idle idle) (head_before path d.shelf.left a c s.idle.later behind) more
+  before (TakeNext input amount rest) a c b r s (f.Takes.no_memory h) = f.Takes.no_memory (ends_before (Err faults.OutOfMemory) a c b r s.idle h)
+  before (TakeNext input amount rest) a c b r s (f.Takes.unread h rose) =
+      f.Takes.unread (ends_before (Err (faults.Read input)) a c b r s.idle h) (rose_before a.shelf.faults c.shelf.faults b.shelf.faults s.idle.later.faults rose)
+  before (TakeNext input amount rest) a c b r s (f.Takes.taken d idle amounts more) =
+      f.Takes.taken d (idle_trans a c d s.idle idle) (taken_before amount d.shelf.left a c s.left amounts) more
   before (Pick P rest) a c b r s (f.Picks.no_memory h) = f.Picks.no_memory (ends_before (Err faults.OutOfMemory) a c b r s.idle h)
   before (Pick P rest) a c b r s (f.Picks.picked x has more) = f.Picks.picked x has (before (rest x) a c b r s more)
   before (Say lines rest) a c b r s (f.Says.no_memory is later first) =
       f.Says.no_memory is (later_trans a c b s.idle.later later) (first_before a.out.held c.out.held b.out.held lines s.idle.held first)
-  before (Say lines rest) a c b r s (f.Says.unwritten is later rose front) =
-      f.Says.unwritten is (later_trans a c b s.idle.later later) (rose_before a.out.faults c.out.faults b.out.faults s.idle.later.out_faults rose)
-      (front_before a.out.held c.out.held b.out.held (concat lines) s.idle.held front)
+  before (Say lines rest) a c b r s (f.Says.unwritten is later left rose part) =
+      f.Says.unwritten is (later_trans a c b s.idle.later later) (left ∙ s.left) (rose_before a.out.faults c.out.faults b.out.faults s.idle.later.out_faults rose)
+      (part_before a.out.held c.out.held b.out.held (concat lines) s.idle.held part)
   before (Say lines rest) a c b r s (f.Says.said d later left appends more) =
       f.Says.said d (later_trans a c d s.idle.later later) (left ∙ s.left) (Appends-before a.out.held c.out.held d.out.held (concat lines) s.idle.held appends) more
 
@@ -51,6 +76,8 @@ module _ {A : Type 0} where
   lacks (Done x) a b r is idle = f.Ends.no_memory (record { is = is; idle = idle })
   lacks (Refuse fault) a b r is idle = f.Ends.no_memory (record { is = is; idle = idle })
   lacks (Ask input path rest) a b r is idle = f.Asks.no_memory (record { is = is; idle = idle })
+  lacks (OpenCapture input path rest) a b r is idle = f.Opens.no_memory (record { is = is; idle = idle })
+  lacks (TakeNext input amount rest) a b r is idle = f.Takes.no_memory (record { is = is; idle = idle })
   lacks (Pick P rest) a b r is idle = f.Picks.no_memory (record { is = is; idle = idle })
   lacks (Say lines rest) a b r is idle = f.Says.no_memory is idle.later (none_first a.out.held b.out.held lines idle.held)
 
@@ -77,10 +104,18 @@ module _ {A B : Type 0} where
   then_on (Ask input path rest) next x a c b r (f.Asks.unread h rose) k = no_fault (faults.Read input) a c x h
   then_on (Ask input path rest) next x a c b r (f.Asks.too_long h told) k = no_fault (faults.Refused (TooLong input)) a c x h
   then_on (Ask input path rest) next x a c b r (f.Asks.asked bytes d held idle whole more) k = f.Asks.asked bytes d held idle whole (then_on (rest bytes) next x d c b r more k)
+  then_on (OpenCapture input path rest) next x a c b r (f.Opens.no_memory h) k = no_fault faults.OutOfMemory a c x h
+  then_on (OpenCapture input path rest) next x a c b r (f.Opens.unopened h rose) k = no_fault (faults.Open input) a c x h
+  then_on (OpenCapture input path rest) next x a c b r (f.Opens.unread h rose) k = no_fault (faults.Read input) a c x h
+  then_on (OpenCapture input path rest) next x a c b r (f.Opens.opened found d tells idle behind more) k =
+      f.Opens.opened found d tells idle behind (then_on (rest found) next x d c b r more k)
+  then_on (TakeNext input amount rest) next x a c b r (f.Takes.no_memory h) k = no_fault faults.OutOfMemory a c x h
+  then_on (TakeNext input amount rest) next x a c b r (f.Takes.unread h rose) k = no_fault (faults.Read input) a c x h
+  then_on (TakeNext input amount rest) next x a c b r (f.Takes.taken d idle amounts more) k = f.Takes.taken d idle amounts (then_on rest next x d c b r more k)
   then_on (Pick P rest) next x a c b r (f.Picks.no_memory h) k = no_fault faults.OutOfMemory a c x h
   then_on (Pick P rest) next x a c b r (f.Picks.picked y has more) k = f.Picks.picked y has (then_on (rest y) next x a c b r more k)
   then_on (Say lines rest) next x a c b r (f.Says.no_memory is later first) k = absurd (cc)
-  then_on (Say lines rest) next x a c b r (f.Says.unwritten is later rose front) k = absurd (cc)
+  then_on (Say lines rest) next x a c b r (f.Says.unwritten is later left rose part) k = absurd (cc)
   then_on (Say lines rest) next x a c b r (f.Says.said d later left appends more) k = f.Says.said d later left appends (then_on rest next x d c b r more k)
 
   -- the first plan ended by a fault, and the call with it
@@ -95,10 +130,18 @@ module _ {A B : Type 0} where
   fails (Ask input path rest) next fault a b r is (f.Asks.unread h rose) = f.Asks.unread (ends_as (faults.Read input) fault a b r is h) rose
   fails (Ask input path rest) next fault a b r is (f.Asks.too_long h told) = f.Asks.too_long (ends_as (faults.Refused (TooLong input)) fault a b r is h) told
   fails (Ask input path rest) next fault a b r is (f.Asks.asked bytes d held idle whole more) = f.Asks.asked bytes d held idle whole (fails (rest bytes) next fault d b r is more)
+  fails (OpenCapture input path rest) next fault a b r is (f.Opens.no_memory h) = f.Opens.no_memory (ends_as faults.OutOfMemory fault a b r is h)
+  fails (OpenCapture input path rest) next fault a b r is (f.Opens.unopened h rose) = f.Opens.unopened (ends_as (faults.Open input) fault a b r is h) rose
+  fails (OpenCapture input path rest) next fault a b r is (f.Opens.unread h rose) = f.Opens.unread (ends_as (faults.Read input) fault a b r is h) rose
+  fails (OpenCapture input path rest) next fault a b r is (f.Opens.opened found d tells idle behind more) =
+      f.Opens.opened found d tells idle behind (fails (rest found) next fault d b r is more)
+  fails (TakeNext input amount rest) next fault a b r is (f.Takes.no_memory h) = f.Takes.no_memory (ends_as faults.OutOfMemory fault a b r is h)
+  fails (TakeNext input amount rest) next fault a b r is (f.Takes.unread h rose) = f.Takes.unread (ends_as (faults.Read input) fault a b r is h) rose
+  fails (TakeNext input amount rest) next fault a b r is (f.Takes.taken d idle amounts more) = f.Takes.taken d idle amounts (fails rest next fault d b r is more)
   fails (Pick P rest) next fault a b r is (f.Picks.no_memory h) = f.Picks.no_memory (ends_as faults.OutOfMemory fault a b r is h)
   fails (Pick P rest) next fault a b r is (f.Picks.picked x has more) = f.Picks.picked x has (fails (rest x) next fault a b r is more)
   fails (Say lines rest) next fault a b r is (f.Says.no_memory e later first) = f.Says.no_memory (same_fault faults.OutOfMemory fault r is e) later first
-  fails (Say lines rest) next fault a b r is (f.Says.unwritten e later rose front) = f.Says.unwritten (same_fault faults.Write fault r is e) later rose front
+  fails (Say lines rest) next fault a b r is (f.Says.unwritten e later left rose part) = f.Says.unwritten (same_fault faults.Write fault r is e) later left rose part
   fails (Say lines rest) next fault a b r is (f.Says.said d later left appends more) = f.Says.said d later left appends (fails rest next fault d b r is more)
 
 module _ {B : Type 0} where

@@ -1,9 +1,13 @@
+pub mod Breaking
 pub mod Endings
 pub mod Fetching
 pub mod Following
 pub mod Fronts
+pub mod Opening
 pub mod Rules
 pub mod Saying
 pub mod Stages
 pub mod Stepping
+pub mod Streaming
 pub mod Texts
+pub mod Weaving

@@ -1,12 +1,12 @@
 -- How lines are written one after another.
-use Rattle.std.proofs.Common.{◌≡◌, ◌<◌, ◌≤◌, ◌+◌, ℕ, List, [], ◌∷◌, ◌++◌, length, map, drop, get_or, Option, Result, Ok, Err, refl, sym, ap, subst, ◌∙◌, append_assoc, add-one, drop-cons}
+use Rattle.std.proofs.Common.{◌≡◌, ◌<◌, ◌≤◌, ◌+◌, ℕ, List, [], ◌∷◌, ◌++◌, length, map, drop, get_or, Option, Result, Ok, Err, refl, sym, ap, subst, ◌∙◌, append_assoc, length-append, arith, add-one, drop-cons}
 use Rattle.std.proofs.lemmas.List.{drop_all}
 use Rattle.std.specs.List.{concat}
 use Rattle.std.specs.Io.KnownBytes.{Appends, Keeps}
 use Rattle.std.proofs.KnownBytes.{Appends-kept, Appends-nil, Appends-trans}
 use Rattle.std.proofs.lemmas.List.Folds.{concat-append}
 use Rattle.std.specs.Result.{IsErrAnd}
-use Rattle.apf_base.specs.Streams.{AppendsFront, AppendsAll}
+use Rattle.apf_base.specs.Streams.{AppendsFront, AppendsPart, AppendsAll}
 use Rattle.command_plan.specs.declared.fault.Fault.{Fault}
 use Rattle.command_plan.specs.declared.fault.Fault.TheVariants as faults
 use Rattle.command_plan.specs.Lines.{AppendsFirst}
@@ -32,8 +32,23 @@ all_and_front a b c xs ys before now = (
   Appends-trans a b c (concat xs) now.0 before now.3,
 )
 
-pub front_of_more : (a b : Option (List ℕ)) (xs ys : List (List ℕ)) → AppendsFront a b (concat xs) → AppendsFront a b (concat (xs ++ ys))
-front_of_more a b xs ys now = (now.0, now.1 ++ concat ys, concat-append xs ys ∙ ap (λ l. l ++ concat ys) now.2 ∙ append_assoc now.0 now.1 (concat ys), now.3)
+pub all_and_part : (a b c : Option (List ℕ)) (xs ys : List (List ℕ)) → AppendsAll a b xs → AppendsPart b c (concat ys) → AppendsPart a c (concat (xs ++ ys))
+all_and_part a b c xs ys before now = (
+  concat xs ++ now.0,
+  now.1,
+  concat-append xs ys ∙ ap (λ l. concat xs ++ l) now.2 ∙ sym (append_assoc (concat xs) now.0 now.1),
+  now.3,
+  Appends-trans a b c (concat xs) now.0 before now.4,
+)
+
+pub part_of_more : (a b : Option (List ℕ)) (xs ys : List (List ℕ)) → AppendsPart a b (concat xs) → AppendsPart a b (concat (xs ++ ys))
+part_of_more a b xs ys now = (
+  now.0,
+  now.1 ++ concat ys,
+  concat-append xs ys ∙ ap (λ l. l ++ concat ys) now.2 ∙ append_assoc now.0 now.1 (concat ys),
+  omega (arith, length-append now.1 (concat ys), now.3),
+  now.4,
+)
 
 pub first_of_more : (a b : Option (List ℕ)) (xs ys : List (List ℕ)) → AppendsFirst a b xs → AppendsFirst a b (xs ++ ys)
 first_of_more a b xs ys now = (now.0, now.1 ++ ys, ap (λ l. l ++ ys) now.2 ∙ append_assoc now.0 now.1 ys, now.3)
@@ -49,7 +64,7 @@ all_said lines a b later left all = f.Says.said b later left all (f.Ends.ended r
 pub says_on : (xs ys : List (List ℕ)) (a c b : Stage) (r : Result (Unit {0}) Fault) → Follows (says xs) a c (Ok tt) → Follows (says ys) c b r → Follows (says (xs ++ ys)) a b r
 unfolding Follows
 says_on xs ys a c b r (f.Says.no_memory is later first) more = absurd (cc)
-says_on xs ys a c b r (f.Says.unwritten is later rose front) more = absurd (cc)
+says_on xs ys a c b r (f.Says.unwritten is later left rose part) more = absurd (cc)
 says_on xs ys a c b r (f.Says.said d later left all (f.Ends.no_memory h)) more = let e : ◌≡◌ {A = Result (Unit {0}) Fault} (Ok tt) (Err faults.OutOfMemory) = h.is in absurd (cc)
 says_on xs ys a c b r (f.Says.said d later left all (f.Ends.ended is s)) more =
     let l : Later a c = later_trans a d c later s.idle.later in
@@ -60,8 +75,8 @@ says_on xs ys a c b r (f.Says.said d later left all (f.Ends.ended is s)) more =
 
     by_more : (r : Result (Unit {0}) Fault) → Follows (says ys) c b r → Later a c → c.shelf.left ≡ a.shelf.left → AppendsAll a.out.held c.out.held xs → Follows (says (xs ++ ys)) a b r
     by_more r (f.Says.no_memory e m first) l same now = f.Says.no_memory e (later_trans a c b l m) (all_and_first a.out.held c.out.held b.out.held xs ys now first)
-    by_more r (f.Says.unwritten e m rose front) l same now =
-        f.Says.unwritten e (later_trans a c b l m) (rose_before a.out.faults c.out.faults b.out.faults l.out_faults rose) (all_and_front a.out.held c.out.held b.out.held xs ys now front)
+    by_more r (f.Says.unwritten e m left rose part) l same now =
+        f.Says.unwritten e (later_trans a c b l m) (left ∙ same) (rose_before a.out.faults c.out.faults b.out.faults l.out_faults rose) (all_and_part a.out.held c.out.held b.out.held xs ys now part)
     by_more r (f.Says.said d m same' more' rest) l same now =
         f.Says.said d (later_trans a c d l m) (same' ∙ same) (all_and_all a.out.held c.out.held d.out.held xs ys now more') rest
 
@@ -69,7 +84,7 @@ says_on xs ys a c b r (f.Says.said d later left all (f.Ends.ended is s)) more =
 pub says_fail : (xs ys : List (List ℕ)) (a b : Stage) (r : Result (Unit {0}) Fault) (fault : Fault) → Follows (says xs) a b (Err fault) → r ≡ Err fault → Follows (says (xs ++ ys)) a b r
 unfolding Follows
 says_fail xs ys a b r fault (f.Says.no_memory is later first) e = f.Says.no_memory (e ∙ is) later (first_of_more a.out.held b.out.held xs ys first)
-says_fail xs ys a b r fault (f.Says.unwritten is later rose front) e = f.Says.unwritten (e ∙ is) later rose (front_of_more a.out.held b.out.held xs ys front)
+says_fail xs ys a b r fault (f.Says.unwritten is later left rose part) e = f.Says.unwritten (e ∙ is) later left rose (part_of_more a.out.held b.out.held xs ys part)
 says_fail xs ys a b r fault (f.Says.said d later left all (f.Ends.no_memory h)) e =
     f.Says.no_memory (e ∙ h.is) (later_trans a d b later h.idle.later) (xs, ys, refl, Appends-kept a.out.held d.out.held b.out.held (concat xs) all h.idle.held)
 says_fail xs ys a b r fault (f.Says.said d later left all (f.Ends.ended is s)) e = absurd (cc)

@@ -4,7 +4,7 @@ use Rattle.std.specs.Io.KnownBytes.{Appends, Keeps}
 use Rattle.std.proofs.KnownBytes.{Appends-kept, Appends-nil, Keeps-refl, Keeps-trans}
 use Rattle.apf_base.specs.Causes.{Rose}
 use Rattle.std.specs.List.{concat}
-use Rattle.apf_base.specs.Streams.{AppendsFront}
+use Rattle.apf_base.specs.Streams.{AppendsFront, AppendsPart}
 use Rattle.command_plan.specs.Lines.{AppendsFirst}
 use Rattle.command_plan.specs.declared.fault.Fault.{Fault}
 use Rattle.command_plan.specs.Follows.{Stage, Later, Idle, Rests, EndsHere}
@@ -45,6 +45,13 @@ Appends-before (Some x) (Some y) (Some z) bs p q = q ∙ ap (λ l. l ++ bs) p
 
 pub front_before : (a b c : Option (List ℕ)) (bs : List ℕ) → Keeps a b → AppendsFront b c bs → AppendsFront a c bs
 front_before a b c bs p q = (q.0, q.1, q.2, Appends-before a b c q.0 p q.3)
+
+pub part_before : (a b c : Option (List ℕ)) (bs : List ℕ) → Keeps a b → AppendsPart b c bs → AppendsPart a c bs
+part_before a b c bs p q = (q.0, q.1, q.2, q.3, Appends-before a b c q.0 p q.4)
+
+-- a part is a front
+pub part_front : (a b : Option (List ℕ)) (bs : List ℕ) → AppendsPart a b bs → AppendsFront a b bs
+part_front a b bs p = (p.0, p.1, p.2, p.4)
 
 pub first_before : (a b c : Option (List ℕ)) (lines : List (List ℕ)) → Keeps a b → AppendsFirst b c lines → AppendsFirst a c lines
 first_before a b c lines p q = (q.0, q.1, q.2, Appends-before a b c (concat q.0) p q.3)

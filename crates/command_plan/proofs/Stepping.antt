@@ -3,7 +3,7 @@ use Rattle.std.proofs.Common.{◌≡◌, ◌≤◌, ◌<◌, ◌∷◌, [], ℕ,
 use Rattle.std.specs.Io.KnownBytes.{Appends, IsAtEnd}
 use Rattle.hex.specs.Hex.{IsBytes}
 use Rattle.apf_base.specs.Causes.{Rose}
-use Rattle.apf_base.specs.Streams.{AppendsFront}
+use Rattle.apf_base.specs.Streams.{AppendsPart}
 use Rattle.command_plan.specs.declared.fault.Input.{Input}
 use Rattle.command_plan.specs.declared.fault.Refusal.TheVariants as refusals
 use Rattle.command_plan.specs.declared.fault.Fault.{Fault}
@@ -52,6 +52,6 @@ module _ (line : List ℕ) (a b : Stage) where
   said later left appends =
       f.Says.said b later left (subst (λ (l : List ℕ). Appends a.out.held b.out.held l) (sym (append-nil line)) appends) (f.Ends.ended refl (rests_refl b))
 
-  pub unsaid : Later a b → Rose a.out.faults b.out.faults → AppendsFront a.out.held b.out.held line → Follows (says (line ∷ [])) a b (Err Write)
+  pub unsaid : Later a b → b.shelf.left ≡ a.shelf.left → Rose a.out.faults b.out.faults → AppendsPart a.out.held b.out.held line → Follows (says (line ∷ [])) a b (Err Write)
   unfolding Follows
-  unsaid later rose front = f.Says.unwritten refl later rose (front.0, front.1, append-nil line ∙ front.2, front.3)
+  unsaid later left rose part = f.Says.unwritten refl later left rose (part.0, part.1, append-nil line ∙ part.2, part.3, part.4)

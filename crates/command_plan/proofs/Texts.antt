@@ -2,7 +2,7 @@
 use Rattle.std.proofs.Common.{◌≡◌, ℕ, List, ◌++◌, Option, None, Some, Result, Ok, Err, refl, sym, subst}
 use Rattle.std.specs.List.{concat}
 use Rattle.apf_base.specs.Causes.{Rose}
-use Rattle.apf_base.specs.Streams.{AppendsFront, AppendsAll}
+use Rattle.apf_base.specs.Streams.{AppendsPart, AppendsAll}
 use Rattle.command_plan.specs.declared.fault.Refusal.{Refusal}
 use Rattle.command_plan.specs.declared.fault.Fault.{Fault}
 use Rattle.command_plan.specs.declared.fault.Fault.TheVariants.{Refused, OutOfMemory, Write}
@@ -10,7 +10,7 @@ use Rattle.command_plan.specs.Plan.{Plan, says, says_some, unless, ◌>>=◌}
 use Rattle.command_plan.specs.Follows.{Stage, Later, Follows, Sinking, Writes}
 use Rattle.command_plan.specs.Follows as f
 use Rattle.command_plan.proofs.Following.{done, fails, refused, then_on, then_pick}
-use Rattle.command_plan.proofs.Saying.{all_said, front_of_more}
+use Rattle.command_plan.proofs.Saying.{all_said, part_of_more}
 
 abbrev pub end_of : Option Refusal → Result (Unit {0}) Fault
 end_of None = Ok tt
@@ -31,9 +31,10 @@ module _ (a b : Stage) (later : Later a b) where
   first_said first rest h = f.Says.no_memory refl later (first, rest, refl, h)
 
   -- a write failed within the lines
-  pub front_said : (xs ys : List (List ℕ)) → Rose a.out.faults b.out.faults → AppendsFront a.out.held b.out.held (concat xs) → Follows (says (xs ++ ys)) a b (Err Write)
+  pub part_said : (xs ys : List (List ℕ)) → b.shelf.left ≡ a.shelf.left → Rose a.out.faults b.out.faults → AppendsPart a.out.held b.out.held (concat xs)
+      → Follows (says (xs ++ ys)) a b (Err Write)
   unfolding Follows
-  front_said xs ys rose h = f.Says.unwritten refl later rose (front_of_more a.out.held b.out.held xs ys h)
+  part_said xs ys left rose h = f.Says.unwritten refl later left rose (part_of_more a.out.held b.out.held xs ys h)
 
 module _ (IsText : List (List ℕ) → Type 0) (refusal : Option Refusal) (a b : Stage) (later : Later a b) where
   -- all lines were written, and the call ended as defined
@@ -46,8 +47,3 @@ module _ (IsText : List (List ℕ) → Type 0) (refusal : Option Refusal) (a b :
   wrote_first first rest text h =
       then_pick IsText (λ l. says l >>= λ _. unless refusal) (first ++ rest) a b (Err OutOfMemory) text
       (fails (says (first ++ rest)) (λ _. unless refusal) OutOfMemory a b (Err OutOfMemory) refl (first_said a b later first rest h))
-
-  pub wrote_front : (xs ys : List (List ℕ)) → IsText (xs ++ ys) → Rose a.out.faults b.out.faults → AppendsFront a.out.held b.out.held (concat xs) → Follows (says_some IsText refusal) a b (Err Write)
-  wrote_front xs ys text rose h =
-      then_pick IsText (λ l. says l >>= λ _. unless refusal) (xs ++ ys) a b (Err Write) text
-      (fails (says (xs ++ ys)) (λ _. unless refusal) Write a b (Err Write) refl (front_said a b later xs ys rose h))

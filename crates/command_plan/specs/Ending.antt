@@ -5,7 +5,8 @@ use Rattle.apf_base.specs.Causes.{Rose}
 use Rattle.apf_base.specs.Streams.{AppendsFront, AppendsAll}
 use Rattle.command_plan.specs.Files.{FileFails, file_limit}
 use Rattle.command_plan.specs.Follows.{Stage}
-use Rattle.command_plan.specs.Plan.{Plan, Done, Refuse, Ask, Pick, Say, MayHold}
+use Rattle.pcap_files.specs.Stream.{Told}
+use Rattle.command_plan.specs.Plan.{Plan, Done, Refuse, Ask, OpenCapture, TakeNext, Pick, Say, MayHold, MayTell}
 use Rattle.command_plan.specs.declared.fault.Fault.{Fault}
 use Rattle.command_plan.specs.declared.fault.Fault.TheVariants.{Usage, Refused, OutOfMemory, Read, Write, Open}
 
@@ -24,6 +25,11 @@ MayEnd (Refuse refusal) file lines end = EndsAs (Err (Refused refusal)) lines en
 MayEnd (Ask input path rest) file lines end =
     ((lines ≡ []) × (fault : Fault) × (end ≡ Err fault) × FileFails input (IfSome (file path) (λ told. file_limit input.kind < length told)) fault)
     ⊎ ((bytes : List ℕ) × MayHold input (file path) bytes × MayEnd (rest bytes) file lines end)
+MayEnd (OpenCapture input path rest) file lines end =
+    ((lines ≡ []) × (fault : Fault) × (end ≡ Err fault) × FileFails input ⊥ fault)
+    ⊎ ((found : Told) × MayTell (file path) found × MayEnd (rest found) file lines end)
+MayEnd (TakeNext input amount rest) file lines end =
+    ((lines ≡ []) × ((end ≡ Err OutOfMemory) ⊎ (end ≡ Err (Read input)))) ⊎ MayEnd rest file lines end
 MayEnd (Pick {X = X} P rest) file lines end = EndsAs (Err OutOfMemory) lines end ⊎ ((x : X) × P x × MayEnd (rest x) file lines end)
 MayEnd (Say these rest) file lines end =
     (((more : List (List ℕ)) × (these ≡ lines ++ more)) × ((end ≡ Err OutOfMemory) ⊎ (end ≡ Err Write)))

@@ -3,10 +3,12 @@ use Rattle.std.specs.Prelude.{◌≡◌, ℕ, ◌<◌, ◌≤◌, List, length, 
 use Rattle.std.specs.List.{concat}
 use Rattle.std.specs.Io.KnownBytes.{Keeps, IsAtEnd}
 use Rattle.apf_base.specs.Causes.{Rose}
-use Rattle.apf_base.specs.Streams.{AppendsFront, AppendsAll}
+use Rattle.apf_base.specs.Streams.{AppendsPart, AppendsAll}
+use Rattle.pcap_files.specs.Stream.{Told}
+use Rattle.command_plan.specs.Amounts.{Amount, IsTakenOf, IsBehindHead}
 use Rattle.command_plan.specs.Files.{file_limit}
 use Rattle.command_plan.specs.Lines.{AppendsFirst}
-use Rattle.command_plan.specs.Plan.{Plan, Done, Refuse, Ask, Pick, Say, MayHold}
+use Rattle.command_plan.specs.Plan.{Plan, Done, Refuse, Ask, OpenCapture, TakeNext, Pick, Say, MayHold, MayTell}
 use Rattle.command_plan.specs.declared.fault.Input.{Input}
 use Rattle.command_plan.specs.declared.fault.Refusal.TheVariants.{TooLong}
 use Rattle.command_plan.specs.declared.fault.Fault.{Fault}
@@ -82,17 +84,31 @@ module _ {A : Type 0} where
     asked : (bytes : List ℕ) (c : Stage) → MayHold input (a.shelf.file path) bytes → Idle a c → IsAtEnd c.shelf.left → Rest bytes c
         → Asks input path Rest a b result
 
+  -- it was to open a capture
+  pub data Opens (input : Input) (path : List ℕ) (Rest : Told → Stage → Type 0) (a b : Stage) (result : Result A Fault) : Type 0 where
+    no_memory : EndsHere (Err faults.OutOfMemory) a b result → Opens input path Rest a b result
+    unopened : EndsHere (Err (faults.Open input)) a b result → Rose a.shelf.misses b.shelf.misses → Opens input path Rest a b result
+    unread : EndsHere (Err (faults.Read input)) a b result → Rose a.shelf.faults b.shelf.faults → Opens input path Rest a b result
+    opened : (found : Told) (c : Stage) → MayTell (a.shelf.file path) found → Idle a c → IsBehindHead (a.shelf.file path) c.shelf.left → Rest found c
+        → Opens input path Rest a b result
+
+  -- it was to take some of the capture that is open
+  pub data Takes (input : Input) (amount : Amount) (Rest : Stage → Type 0) (a b : Stage) (result : Result A Fault) : Type 0 where
+    no_memory : EndsHere (Err faults.OutOfMemory) a b result → Takes input amount Rest a b result
+    unread : EndsHere (Err (faults.Read input)) a b result → Rose a.shelf.faults b.shelf.faults → Takes input amount Rest a b result
+    taken : (c : Stage) → Idle a c → IsTakenOf amount a.shelf.left c.shelf.left → Rest c → Takes input amount Rest a b result
+
   -- it was to choose something
   pub data Picks {X : Type 0} (P : X → Type 0) (Rest : X → Type 0) (a b : Stage) (result : Result A Fault) : Type 0 where
     no_memory : EndsHere (Err faults.OutOfMemory) a b result → Picks P Rest a b result
     picked : (x : X) → P x → Rest x → Picks P Rest a b result
 
   -- it was to write lines: where memory is wanting the first of them stand, and where a write fails the first bytes of
-  -- their text
+  -- their text; nothing is read meanwhile
   pub data Says (lines : List (List ℕ)) (Rest : Stage → Type 0) (a b : Stage) (result : Result A Fault) : Type 0 where
     no_memory : result ≡ Err faults.OutOfMemory → Later a b → AppendsFirst a.out.held b.out.held lines → Says lines Rest a b result
-    unwritten : result ≡ Err faults.Write → Later a b → Rose a.out.faults b.out.faults → AppendsFront a.out.held b.out.held (concat lines)
-        → Says lines Rest a b result
+    unwritten : result ≡ Err faults.Write → Later a b → b.shelf.left ≡ a.shelf.left → Rose a.out.faults b.out.faults
+        → AppendsPart a.out.held b.out.held (concat lines) → Says lines Rest a b result
     said : (c : Stage) → Later a c → c.shelf.left ≡ a.shelf.left → AppendsAll a.out.held c.out.held lines → Rest c → Says lines Rest a b result
 
 -- ---- over a plan
@@ -102,6 +118,8 @@ unfoldable pub Follows : {A : Type 0} → Plan A → Stage → Stage → Result 
 Follows (Done x) a b result = Ends (Ok x) a b result
 Follows (Refuse refusal) a b result = Ends (Err (faults.Refused refusal)) a b result
 Follows (Ask input path rest) a b result = Asks input path (λ bytes c. Follows (rest bytes) c b result) a b result
+Follows (OpenCapture input path rest) a b result = Opens input path (λ found c. Follows (rest found) c b result) a b result
+Follows (TakeNext input amount rest) a b result = Takes input amount (λ c. Follows rest c b result) a b result
 Follows (Pick P rest) a b result = Picks P (λ x. Follows (rest x) a b result) a b result
 Follows (Say lines rest) a b result = Says lines (λ c. Follows rest c b result) a b result
 

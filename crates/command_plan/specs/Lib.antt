@@ -1,7 +1,11 @@
+pub mod Amounts
+pub mod Breaking
 pub mod Ending
 pub mod Files
 pub mod Follows
 pub mod Lines
 pub mod Meaning
 pub mod Plan
+pub mod Records
 pub mod Status
+pub mod Weaving

@@ -46,6 +46,6 @@ abbrev pub ReadsWholeFor : CommandMeaning → Type 0
 ReadsWholeFor nothing = ⊥
 ReadsWholeFor (command plan) = ReadsWhole false plan
 
-abbrev pub IsQuietFor : CommandMeaning → Type 0
-IsQuietFor nothing = ⊤
-IsQuietFor (command plan) = IsQuiet false plan
+abbrev pub IsQuietFor : Bool → CommandMeaning → Type 0
+IsQuietFor by_and_by nothing = ⊤
+IsQuietFor by_and_by (command plan) = IsQuiet by_and_by false plan

@@ -18,6 +18,9 @@ pub trait Files: Shelf {
     fn ask(&mut self, alloc: Global, name: &str, input: Input) -> Result<List<u8>, Fault>
         requires { Self.may name.now }
         ensures { Reads (asks input name.now) (seen self.old) (seen self.new) result };
+
+    // What is seen is what the shelf tells and has left, and its counts.
+    ghost seen_is: { (s : Self) → seen s ≡ shelving (Self.file s) (Self.left s) (Self.faults s) (Self.misses s) };
 }
 
 impl<H: Shelf> Files for H {
@@ -26,6 +29,8 @@ impl<H: Shelf> Files for H {
     fn ask(&mut self, alloc: Global, name: &str, input: Input) -> Result<List<u8>, Fault> {
         ask(alloc, self, name, input)
     }
+
+    ghost seen_is = { λ s. refl };
 }
 
 /// A sink whose steps follow plans.

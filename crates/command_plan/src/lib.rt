@@ -8,10 +8,12 @@
 mod complaint;
 mod desk;
 mod fault;
+mod records;
 mod sharing;
 mod steps;
 
 pub use complaint::complain;
 pub use desk::{Files, Lines};
 pub use fault::{Fault, FileKind, Input, Refusal, status_of};
+pub use records::{next_record, open_capture};
 pub use sharing::types_are_shared;

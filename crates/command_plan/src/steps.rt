@@ -13,7 +13,7 @@ use apf_base::{List, ReadAllError, Shelf, Sink, Source, read_all, write_all};
 use std::alloc::Global;
 
 // What a slice of bytes holds is bytes.
-fn are_bytes(bytes: &[u8])
+pub(crate) fn are_bytes(bytes: &[u8])
     ensures { IsBytes bytes.now }
 {
     let _ = bytes;

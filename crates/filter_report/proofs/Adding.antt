@@ -1,5 +1,5 @@
 -- How what calls add goes together.
-use Rattle.std.proofs.Common.{◌≡◌, ℕ, List, [], ◌∷◌, ◌++◌, Option, None, Some, Result, Ok, Err, OnOk, OnErr, IfErr, refl, sym, ap, subst, ◌∙◌, append_assoc, append-nil, ◌+◌, ◌<◌, ◌≤◌, length, take, drop, get_or, take-append-drop}
+use Rattle.std.proofs.Common.{◌≡◌, ℕ, List, [], ◌∷◌, ◌++◌, Option, None, Some, Result, Ok, Err, OnOk, OnErr, IfErr, refl, sym, ap, subst, ◌∙◌, append_assoc, append-nil, ◌+◌, ◌<◌, ◌≤◌, length, length-append, take, drop, get_or, take-append-drop, arith}
 use Rattle.std.specs.Prelude.{◌≢◌}
 use Rattle.std.specs.List.{concat}
 use Rattle.std.specs.Io.KnownBytes.{Appends, Keeps}
@@ -7,7 +7,7 @@ use Rattle.std.proofs.KnownBytes.{Appends-trans, Appends-nil}
 use Rattle.std.proofs.lemmas.Grind.{take_at_read}
 use Rattle.std.proofs.lemmas.List.{take_all}
 use Rattle.std.proofs.lemmas.List.Folds.{concat-append}
-use Rattle.apf_base.specs.Streams.{AppendsFront, AppendsAll}
+use Rattle.apf_base.specs.Streams.{AppendsAll, AppendsPart}
 use Rattle.filter_report.specs.declared.fault.ReportFault.{ReportFault}
 use Rattle.filter_report.specs.declared.fault.ReportFault.TheVariants.{TooLarge, OutOfMemory, Write}
 use Rattle.filter_report.specs.Lines.{Adds, BreaksOff}
@@ -22,15 +22,21 @@ kept_none (Some x) (Some y) k = k ∙ sym (append-nil x)
 pub all_and_all : (a b c : Option (List ℕ)) (xs ys : List (List ℕ)) → AppendsAll a b xs → AppendsAll b c ys → AppendsAll a c (xs ++ ys)
 all_and_all a b c xs ys before now = subst (λ (bs : List ℕ). Appends a c bs) (sym (concat-append xs ys)) (Appends-trans a b c (concat xs) (concat ys) before now)
 
-pub front_of_more : (a b : Option (List ℕ)) (xs ys : List ℕ) → AppendsFront a b xs → AppendsFront a b (xs ++ ys)
-front_of_more a b xs ys now = (now.0, now.1 ++ ys, ap (λ (l : List ℕ). l ++ ys) now.2 ∙ append_assoc now.0 now.1 ys, now.3)
+pub part_of_more : (a b : Option (List ℕ)) (xs ys : List ℕ) → AppendsPart a b xs → AppendsPart a b (xs ++ ys)
+part_of_more a b xs ys now = (
+  now.0,
+  now.1 ++ ys,
+  ap (λ (l : List ℕ). l ++ ys) now.2 ∙ append_assoc now.0 now.1 ys,
+  omega (arith, now.3, length-append now.1 ys),
+  now.4,
+)
 
-pub bytes_and_front : (a b c : Option (List ℕ)) (xs ys : List ℕ) → Appends a b xs → AppendsFront b c ys → AppendsFront a c (xs ++ ys)
-bytes_and_front a b c xs ys before now =
-    (xs ++ now.0, now.1, ap (λ (l : List ℕ). xs ++ l) now.2 ∙ sym (append_assoc xs now.0 now.1), Appends-trans a b c xs now.0 before now.3)
+pub bytes_and_part : (a b c : Option (List ℕ)) (xs ys : List ℕ) → Appends a b xs → AppendsPart b c ys → AppendsPart a c (xs ++ ys)
+bytes_and_part a b c xs ys before now =
+    (xs ++ now.0, now.1, ap (λ (l : List ℕ). xs ++ l) now.2 ∙ sym (append_assoc xs now.0 now.1), now.3, Appends-trans a b c xs now.0 before now.4)
 
-pub all_and_front : (a b c : Option (List ℕ)) (xs ys : List (List ℕ)) → AppendsAll a b xs → AppendsFront b c (concat ys) → AppendsFront a c (concat (xs ++ ys))
-all_and_front a b c xs ys before now = subst (λ (bs : List ℕ). AppendsFront a c bs) (sym (concat-append xs ys)) (bytes_and_front a b c (concat xs) (concat ys) before now)
+pub all_and_part : (a b c : Option (List ℕ)) (xs ys : List (List ℕ)) → AppendsAll a b xs → AppendsPart b c (concat ys) → AppendsPart a c (concat (xs ++ ys))
+all_and_part a b c xs ys before now = subst (λ (bs : List ℕ). AppendsPart a c bs) (sym (concat-append xs ys)) (bytes_and_part a b c (concat xs) (concat ys) before now)
 
 -- ---- calls behind calls
 
@@ -47,7 +53,7 @@ module _ (Before Between After : List (List ℕ) → Type 0) (a b c : Option (Li
   adds_breaks Write first then = λ lines before.
       let x = first lines before in
       let y = then (lines ++ x.0) x.2 in
-      (x.0 ++ y.0, all_and_front a b c x.0 y.0 x.1 y.1, subst After (append_assoc lines x.0 y.0) y.2)
+      (x.0 ++ y.0, all_and_part a b c x.0 y.0 x.1 y.1, subst After (append_assoc lines x.0 y.0) y.2)
 
 module _ (Before After Later : List (List ℕ) → Type 0) (a b : Option (List ℕ)) where
   -- what holds of the lines gives more, by what held of the first of them
@@ -74,9 +80,9 @@ module _ (Before After : List (List ℕ) → Type 0) (a b : Option (List ℕ)) w
   adds_these more (Ok x) tells done = λ lines before. (more, done, tells lines before)
   adds_these more (Err e) tells done = tt
 
-  -- or a front of their text
+  -- or the first part of their text
   pub breaks_these : (more : List (List ℕ)) (result : Result (Unit {0}) ReportFault) → ((lines : List (List ℕ)) → Before lines → After (lines ++ more))
-      → OnErr result (result ≡ Err Write) → OnErr result (AppendsFront a b (concat more)) → IfErr result (λ fault. BreaksOff fault Before After a b)
+      → OnErr result (result ≡ Err Write) → OnErr result (AppendsPart a b (concat more)) → IfErr result (λ fault. BreaksOff fault Before After a b)
   breaks_these more (Ok x) tells is front = tt
   breaks_these more (Err (TooLarge need limit)) tells is front = tt
   breaks_these more (Err OutOfMemory) tells is front = absurd cc
@@ -89,7 +95,7 @@ module _ (Before After : List (List ℕ) → Type 0) (a b : Option (List ℕ)) (
   adds_known (Err e) done = tt
 
   pub breaks_known : (result : Result (Unit {0}) ReportFault) → ((lines : List (List ℕ)) → Before lines → After lines) → OnErr result (result ≢ Err Write → Keeps a b)
-      → ((lines : List (List ℕ)) → Before lines → result ≡ Err Write → AppendsFront a b (concat more)) → IfErr result (λ fault. BreaksOff fault Before After a b)
+      → ((lines : List (List ℕ)) → Before lines → result ≡ Err Write → AppendsPart a b (concat more)) → IfErr result (λ fault. BreaksOff fault Before After a b)
   breaks_known (Ok x) same quiet front = tt
   breaks_known (Err (TooLarge need limit)) same quiet front = tt
   breaks_known (Err OutOfMemory) same quiet front = λ lines before. ([], kept_none a b (quiet (λ is. absurd cc)), subst After (sym (append-nil lines)) (same lines before))
@@ -108,13 +114,13 @@ module _ (list : List (List ℕ)) (i : ℕ) (d line : List ℕ) (a b c : Option 
       subst (λ (l : List (List ℕ)). AppendsAll a c l) (ap (λ (x : List ℕ). take i list ++ x ∷ []) is ∙ sym (take_at_read list i d below).1)
       (all_and_all a b c (take i list) (line ∷ []) before (subst (λ (bs : List ℕ). Appends b c bs) (sym (append-nil line)) now))
 
-  pub line_fails : i < length list → line ≡ get_or list i d → AppendsAll a b (take i list) → AppendsFront b c line → AppendsFront a c (concat list)
+  pub line_fails : i < length list → line ≡ get_or list i d → AppendsAll a b (take i list) → AppendsPart b c line → AppendsPart a c (concat list)
   line_fails below is before now =
-      let first = all_and_front a b c (take i list) (line ∷ []) before (subst (λ (bs : List ℕ). AppendsFront b c bs) (sym (append-nil line)) now) in
+      let first = all_and_part a b c (take i list) (line ∷ []) before (subst (λ (bs : List ℕ). AppendsPart b c bs) (sym (append-nil line)) now) in
       let here : take i list ++ line ∷ [] ≡ take (i + 1) list = ap (λ (x : List ℕ). take i list ++ x ∷ []) is ∙ sym (take_at_read list i d below).1 in
       let whole : concat list ≡ concat (take i list ++ line ∷ []) ++ concat (drop (i + 1) list) =
       ap concat (sym (take-append-drop (i + 1) list)) ∙ concat-append (take (i + 1) list) (drop (i + 1) list) ∙ ap (λ (l : List (List ℕ)). concat l ++ concat (drop (i + 1) list)) (sym here) in
-      (first.0, first.1 ++ concat (drop (i + 1) list), whole ∙ ap (λ (l : List ℕ). l ++ concat (drop (i + 1) list)) first.2 ∙ append_assoc first.0 first.1 (concat (drop (i + 1) list)), first.3)
+      subst (λ (bs : List ℕ). AppendsPart a c bs) (sym whole) (part_of_more a c (concat (take i list ++ line ∷ [])) (concat (drop (i + 1) list)) first)
 
 pub all_lines : (list : List (List ℕ)) (i : ℕ) (a b : Option (List ℕ)) → length list ≤ i → AppendsAll a b (take i list) → AppendsAll a b list
 all_lines list i a b past before = subst (λ (l : List (List ℕ)). AppendsAll a b l) (take_all i list past) before

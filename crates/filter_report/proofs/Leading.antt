@@ -35,7 +35,7 @@ due_room second c fits = due_grown HasRoom IsFitting (λ u. ⊤) (λ frame. ⊤)
 frame_room : (c : Course) (arrival : Arrival) → IsFitting c.filter → Grown HasRoom IsFitting c (after_frame c arrival)
 frame_room c arrival fits = frame_grown HasRoom IsFitting (λ u. ⊤) (λ frame. ⊤) room_kept c arrival fits tt
 
-arrivals_room : (c : Course) (arrivals : List Arrival) → IsFitting c.filter → Grown HasRoom IsFitting c (fold after_arrival c arrivals)
+pub arrivals_room : (c : Course) (arrivals : List Arrival) → IsFitting c.filter → Grown HasRoom IsFitting c (fold after_arrival c arrivals)
 arrivals_room c arrivals fits = arrivals_grown HasRoom IsFitting (λ u. ⊤) (λ frame. ⊤) room_kept c arrivals fits (λ k d lt. tt) (λ k d lt. tt)
 
 -- ---- lines that lead

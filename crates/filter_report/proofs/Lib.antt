@@ -1,8 +1,10 @@
 pub mod Adding
 pub mod CodesTold
+pub mod Completing
 pub mod Leading
 pub mod Learning
 pub mod Reporting
 pub mod Summing
 pub mod Telling
 pub mod Updating
+pub mod Woven

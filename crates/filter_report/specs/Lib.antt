@@ -3,4 +3,5 @@ pub mod Arrivals
 pub mod Faults
 pub mod Lines
 pub mod Report
+pub mod Streaming
 pub mod Text

@@ -4,7 +4,7 @@ ghost use Rattle.std.specs.Prelude.{◌≡◌, ◌≢◌, ◌≤◌, ◌<◌, �
 ghost use Rattle.std.specs.Io.KnownBytes.{Keeps};
 ghost use Rattle.std.specs.List.{concat};
 ghost use Rattle.apf_base.specs.Causes.{Rose};
-ghost use Rattle.apf_base.specs.Streams.{AppendsFront, AppendsAll};
+ghost use Rattle.apf_base.specs.Streams.{AppendsAll, AppendsPart};
 ghost use Rattle.filter_core.specs.Replay.{Course, after_arrival, after_due, after_frame, begun, finished, totals};
 ghost use Rattle.pcap_files.specs.Capture.{frame_of, IsWithin};
 ghost use Rattle.policy_state.specs.States.{start};
@@ -158,8 +158,9 @@ impl Filtering {
         write_first_and_more(&done.line, done.more.as_slice(), out)
     }
 
-    // Takes the events that are due at a frame's second, and then the frame.
-    fn take_arrival<O: Sink>(
+    /// Takes a record: the events that are due at its second, then its frame, and what is learnt from it. Each line is
+    /// written as one piece.
+    pub fn take_record<O: Sink>(
         &mut self,
         alloc: Global,
         second: u32,
@@ -181,8 +182,7 @@ impl Filtering {
         self.take_frame(alloc, second, frame, out)
     }
 
-    /// Takes records of a capture, one after another: for each the events that are due at its second, then the frame, and
-    /// what is learnt from it. Each line is written as one piece.
+    /// Takes records of a capture that is in memory, one after another.
     pub fn take_all<O: Sink>(
         &mut self,
         alloc: Global,
@@ -207,7 +207,7 @@ impl Filtering {
     {
         for placed in records {
             let frame = frame_at(capture, placed);
-            self.take_arrival(alloc, placed.stamp.sec, frame, out)?;
+            self.take_record(alloc, placed.stamp.sec, frame, out)?;
         }
         Ok(())
     }
@@ -236,7 +236,7 @@ impl Filtering {
         ensures ok { (c : Course) (frames lines : Items (Items ℕ)) → InCourse c self.now frames lines
             → OnOk result (AppendsAll (O.held out.old) (O.held out.new) (entry_lines [] [] (totals c.told))) }
         ensures front { (c : Course) (frames lines : Items (Items ℕ)) → InCourse c self.now frames lines
-            → result ≡ Err ReportFault.Write → AppendsFront (O.held out.old) (O.held out.new) (concat (entry_lines [] [] (totals c.told))) }
+            → result ≡ Err ReportFault.Write → AppendsPart (O.held out.old) (O.held out.new) (concat (entry_lines [] [] (totals c.told))) }
         ensures quiet { OnErr result (result ≢ Err ReportFault.Write → Keeps (O.held out.old) (O.held out.new)) }
         ensures no_limit { (need limit : ℕ) → result ≢ Err (ReportFault.TooLarge need limit) }
         ensures write { result ≡ Err ReportFault.Write → Rose (O.faults out.old) (O.faults out.new) }

@@ -10,6 +10,7 @@ mod filtering;
 mod frames;
 mod laws;
 mod lines;
+mod replaying;
 mod sharing;
 #[cfg(test)]
 mod tests;
@@ -19,4 +20,5 @@ mod writing;
 pub use fault::ReportFault;
 pub use filtering::Filtering;
 pub use laws::{gen_lines_have_one_code, reports_have_one_list_of_codes, reports_tell_their_codes};
+pub use replaying::replay;
 pub use sharing::types_are_shared;

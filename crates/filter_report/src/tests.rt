@@ -1,5 +1,6 @@
-use crate::Filtering;
-use apf_base::{List, MemSink};
+use crate::{Filtering, replay};
+use apf_base::{List, MemShelf, MemSink};
+use command_plan::{FileKind, Input, open_capture};
 use pcap_files::records;
 use policy_state::{Config, Script};
 use std::alloc::Global;
@@ -58,6 +59,29 @@ fn frames_are_reported(rt: HostRuntime) -> Result<(), Fail> {
     let mut filtering = Filtering::begin(alloc, script, &mut out)?;
     filtering.take_all(alloc, &CAPTURE, found.list.as_slice(), &mut out)?;
     filtering.finish(alloc, &mut out)?;
+    let text = str::from_utf8(out.bytes())?;
+    assert_eq!(rt; text.lines().count(), LINES.len(), "{text}");
+    for (line, start) in text.lines().zip(LINES) {
+        assert!(rt; line.starts_with(start), "{line}");
+    }
+    Ok(())
+}
+
+#[test]
+fn records_are_reported_as_they_come(rt: HostRuntime) -> Result<(), Fail> {
+    let alloc = rt.alloc();
+    let input = Input {
+        kind: FileKind::Capture,
+        word: 2,
+    };
+    let mut shelf = MemShelf::new(alloc, 7, List::new(alloc), List::new(alloc));
+    shelf.add("capture", List::of(alloc, CAPTURE)?)?;
+    let mut out = MemSink::new(alloc, 100, 8192, List::new(alloc))?;
+    let script = script(alloc);
+    assert!(rt; script.events.len() < 100);
+    let filtering = Filtering::begin(alloc, script, &mut out)?;
+    let reader = open_capture(&mut shelf, "capture", input)?;
+    replay(alloc, filtering, reader, &mut shelf, input, &mut out)?;
     let text = str::from_utf8(out.bytes())?;
     assert_eq!(rt; text.lines().count(), LINES.len(), "{text}");
     for (line, start) in text.lines().zip(LINES) {

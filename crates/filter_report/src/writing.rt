@@ -3,7 +3,7 @@
 ghost use Rattle.std.specs.Prelude.{◌≡◌, ◌≢◌, ◌≤◌, ◌∷◌, ℕ, OnOk, OnErr, Err};
 ghost use Rattle.std.specs.List.{concat};
 ghost use Rattle.apf_base.specs.Causes.{Rose};
-ghost use Rattle.apf_base.specs.Streams.{AppendsFront, AppendsAll};
+ghost use Rattle.apf_base.specs.Streams.{AppendsAll, AppendsPart};
 
 use crate::fault::ReportFault;
 use apf_base::{List, Sink, write_all};
@@ -12,7 +12,7 @@ use apf_base::{List, Sink, write_all};
 pub(crate) fn write_lines<O: Sink>(lines: &[List<u8>], out: &mut O) -> Result<(), ReportFault>
     ensures ok { OnOk result (AppendsAll (O.held out.old) (O.held out.new) lines.now) }
     ensures err { OnErr result (result ≡ Err ReportFault.Write) }
-    ensures front { OnErr result (AppendsFront (O.held out.old) (O.held out.new) (concat lines.now)) }
+    ensures front { OnErr result (AppendsPart (O.held out.old) (O.held out.new) (concat lines.now)) }
     ensures no_limit { (need limit : ℕ) → result ≢ Err (ReportFault.TooLarge need limit) }
     ensures write { result ≡ Err ReportFault.Write → Rose (O.faults out.old) (O.faults out.new) }
     ensures faults { O.faults out.old ≤ O.faults out.new }
@@ -31,7 +31,7 @@ pub(crate) fn write_first_and_more<O: Sink>(
 ) -> Result<(), ReportFault>
     ensures ok { OnOk result (AppendsAll (O.held out.old) (O.held out.new) (first.now ∷ more.now)) }
     ensures err { OnErr result (result ≡ Err ReportFault.Write) }
-    ensures front { OnErr result (AppendsFront (O.held out.old) (O.held out.new) (concat (first.now ∷ more.now))) }
+    ensures front { OnErr result (AppendsPart (O.held out.old) (O.held out.new) (concat (first.now ∷ more.now))) }
     ensures no_limit { (need limit : ℕ) → result ≢ Err (ReportFault.TooLarge need limit) }
     ensures write { result ≡ Err ReportFault.Write → Rose (O.faults out.old) (O.faults out.new) }
     ensures faults { O.faults out.old ≤ O.faults out.new }

@@ -39,6 +39,7 @@ impl Capture {
         ensures starts { Starts (S.left src.old) (S.left src.new) result }
         ensures taken { OnOk result (TakesBytes 24 (S.left src.old) (S.left src.new)) }
         ensures most { TakesAtMost 24 (S.left src.old) (S.left src.new) }
+        ensures given { S.given src.new ≤ S.given src.old + 24 }
         ensures live { IfOk result (λ reader. IsTrue reader.live) }
         ensures place { IfOk result (λ reader. reader.at ≡ 24) }
         ensures read { result ≡ Err PcapError.Read → Rose (S.faults src.old) (S.faults src.new) }
@@ -55,6 +56,19 @@ impl Capture {
             at: HEAD as u32,
             live: true,
         })
+    }
+
+    /// A reader that stands at this offset, as it would behind so many bytes.
+    #[cfg(test)]
+    pub(crate) fn standing(kind: Kind, at: u32) -> Capture
+        ensures place { result.at ≡ at }
+        ensures live { IsTrue result.live }
+    {
+        Capture {
+            kind,
+            at,
+            live: true,
+        }
     }
 
     /// Whether more records may come: so it is at the start and after each record, but not after the end or an error.
@@ -90,6 +104,7 @@ impl Capture {
         ensures exact { IsNextAnswer self.old (S.left src.old) result }
         ensures taken { IfHanded result (TakesIt self.old (S.left src.old) (S.left src.new) into.new) }
         ensures most { TakesAtMost (16 + frame_limit) (S.left src.old) (S.left src.new) }
+        ensures given { S.given src.new ≤ S.given src.old + (16 + frame_limit) }
         ensures place { IfHanded result (λ _. self.new.at ≡ self.old.at + (16 + length into.new)) }
         ensures stays { is_handed result ≡ false → self.new.at ≡ self.old.at }
         ensures inside { self.new.at ≤ 4294967295 }
@@ -144,6 +159,7 @@ fn take_frame<S: Source>(src: &mut S, len: usize, into: &mut List<u8>) -> Result
     requires { into.old ≡ [] }
     ensures taken { IfOk result (λ taken. TakesFrame len (S.left src.old) (S.left src.new) into.new taken) }
     ensures most { TakesAtMost len (S.left src.old) (S.left src.new) }
+    ensures given { S.given src.new ≤ S.given src.old + len }
     ensures bound { length into.new ≤ len }
     ensures cause { HasCause (S.faults src.old) (S.faults src.new) result }
     ensures misses { S.misses src.new ≡ S.misses src.old }
@@ -177,6 +193,7 @@ fn take_record<S: Source>(
 ) -> Result<Option<Placed>, PcapError>
     ensures taken { TakesRecord big at (S.left src.old) (S.left src.new) into.new result }
     ensures most { TakesAtMost (16 + frame_limit) (S.left src.old) (S.left src.new) }
+    ensures given { S.given src.new ≤ S.given src.old + (16 + frame_limit) }
     ensures read { result ≡ Err PcapError.Read → Rose (S.faults src.old) (S.faults src.new) }
     ensures bound { length into.new ≤ frame_limit }
     ensures faults { S.faults src.old ≤ S.faults src.new }

@@ -2,7 +2,6 @@
 
 ghost use Rattle.std.specs.Prelude.{◌<◌, ◌≤◌, length};
 
-use crate::reading::promised;
 use crate::{Capture, Kind, PcapError, Placed, Records, Stamp, head, put, records};
 use apf_base::{List, MemSource, OutOfMemory, Source, read_all};
 use std::alloc::Global;
@@ -271,7 +270,7 @@ fn a_record_is_taken_and_no_more(rt: HostRuntime) -> Result<(), Fail> {
     Ok(())
 }
 
-/// Offsets of a record of 19 bytes, and whether its header is refused there.
+/// Offsets of a record of 19 bytes, and how a reader refuses it there.
 static PLACES: [(u32, Option<PcapError>); 2] = [
     (4_294_967_276, None),
     (4_294_967_277, Some(PcapError::Length)),
@@ -279,9 +278,19 @@ static PLACES: [(u32, Option<PcapError>); 2] = [
 
 #[test]
 fn no_record_ends_behind_the_last_offset(rt: HostRuntime) -> Result<(), Fail> {
+    let kind = Kind {
+        big: false,
+        nano: false,
+    };
     for (at, refused) in PLACES.iter() {
-        let answer = promised(false, *at, &RECORDS[31..47]).err();
-        assert_eq!(rt; answer, *refused, "record at {at}");
+        let mut file = List::new(rt.alloc());
+        file.extend(&RECORDS[31..])?;
+        let mut source = MemSource::new(file, 7, List::new(rt.alloc()));
+        let mut reader = Capture::standing(kind, *at);
+        let mut frame = List::new(rt.alloc());
+        let answer = reader.next(&mut source, &mut frame);
+        assert_eq!(rt; answer.err(), *refused, "record at {at}");
+        assert_eq!(rt; reader.is_live(), refused.is_none(), "record at {at}");
     }
     Ok(())
 }

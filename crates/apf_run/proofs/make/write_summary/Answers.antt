@@ -23,7 +23,7 @@ returns-in_err-write_totals g c =
     (record {
       at = λ shelf.
           rw (p.1, p.2) (totals_fail c.args.n c.in_ok-filtering.filtering _ _ (record { files = refl; faults = omega arith; misses = omega arith; out_faults = e.faults }) c.in_ok-filtering.ensures.ok
-          _ c.in_err-write_totals.field-0.0 refl e.front e.quiet e.no_limit e.write);
+          refl _ c.in_err-write_totals.field-0.0 refl e.front e.quiet e.no_limit e.write);
     })
 
 pub returns : goal.returns

@@ -1,6 +1,7 @@
 use Rattle.std.proofs.Common.{◌≡◌, inl, inr, ap, sym, ◌∙◌}
 use Rattle.command_line.specs.Lines.{texts}
 use Rattle.command_plan.specs.Status.{status_of}
+use Rattle.command_plan.proofs.Breaking.{does_breaks}
 use Rattle.command_plan.proofs.Endings.{does_later, does_stands, does_complete, does_read, does_write, does_open, does_usage, does_refuse}
 use Rattle.apf_run.proofs.Headline.{filtered}
 use Rattle.apf_run.proofs.Early.{keeps_early, only_begun, reads_all}
@@ -28,16 +29,16 @@ returns-clause-first g c = λ script capture words kind.
     let is = status g c in
     only_begun (g.H.Source.file c.args.shelf.now) _ _ script capture _ s.0 c.carry_out-end.result words (elim kind [
       | inl e ↦ inl (sym is ∙ e)
-      | inr more ↦ inr (elim more [
-        | inl e ↦ inl (sym is ∙ e)
-        | inr e ↦ inr (sym is ∙ e)
-      ])
+      | inr e ↦ inr (sym is ∙ e)
     ]) s.1 s.2
 
 pub returns-clause-stands : goal.returns-clause-stands
 returns-clause-stands g c =
     let s = does_stands _ _ _ _ c.carry_out-end.ensures in
     (c.carry_out-end.result, status g c, s.0, s.1, s.2)
+
+pub returns-clause-breaks : goal.returns-clause-breaks
+returns-clause-breaks g c = λ is. does_breaks _ _ _ _ c.carry_out-end.ensures (sym (status g c) ∙ is)
 
 pub returns-clause-complete : goal.returns-clause-complete
 returns-clause-complete g c = λ faults misses out_faults.
@@ -66,10 +67,10 @@ pub returns-clause-open : goal.returns-clause-open
 returns-clause-open g c = λ is. does_open _ _ _ _ c.carry_out-end.ensures (sym (status g c) ∙ is)
 
 pub returns-clause-quiet : goal.returns-clause-quiet
-returns-clause-quiet g c = λ ok capture memory write none.
+returns-clause-quiet g c = λ ok capture memory write taken none.
     let is = status g c in
     keeps_early (texts c.args.words.now) _ _ c.carry_out-end.result (record { ok = λ e. ok (is ∙ e); capture = λ e. capture (is ∙ e); memory = λ e. memory (is ∙ e); write = λ e. write (is ∙ e) })
-    (λ named. let n = none named in (λ e. n.0 (is ∙ e), λ e. n.1 (is ∙ e), λ e. n.2 (is ∙ e))) c.carry_out-end.ensures
+    (λ named e. taken named (is ∙ e)) (λ named. let n = none named in (λ e. n.0 (is ∙ e), λ e. n.1 (is ∙ e))) c.carry_out-end.ensures
 
 pub returns-clause-whole : goal.returns-clause-whole
 returns-clause-whole g c = λ is no_program no_make.

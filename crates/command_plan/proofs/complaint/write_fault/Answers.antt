@@ -4,6 +4,7 @@ use Rattle.std.proofs.lemmas.Result.{err_from_is_err_and, on_ok_weaker, on_err_w
 use Rattle.command_line.specs.Lines.{texts}
 use Rattle.command_plan.specs.Status.{fault_head, fault_numbers, fault_line}
 use Rattle.command_plan.proofs.Fronts.{front_after, first_fails, third_fails, all_three}
+use Rattle.command_plan.proofs.Stages.{part_front}
 use Rattle.command_plan.proofs.complaint.write_fault.Goals as goal
 
 pub returns-in_err-write_head-clause-err : goal.returns-in_err-write_head-clause-err
@@ -29,4 +30,4 @@ pub returns-clause-err : goal.returns-clause-err
 unfolding fault_line
 returns-clause-err g c =
     on_err_weaker c.write_all.result (λ now. third_fails _ _ _ _ (fault_head c.args.fault (texts c.args.words.now)) (fault_numbers c.args.fault) (codes "\n") _
-    c.in_ok-write_head.ensures.ok c.in_ok-write_numbers.ensures.ok now refl) c.write_all.ensures.err
+    c.in_ok-write_head.ensures.ok c.in_ok-write_numbers.ensures.ok (part_front _ _ _ now) refl) c.write_all.ensures.err

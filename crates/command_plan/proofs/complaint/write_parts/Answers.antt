@@ -2,6 +2,7 @@ use Rattle.std.proofs.Common.{refl, rules, [], arith}
 use Rattle.std.proofs.KnownBytes.{Appends-nil}
 use Rattle.std.proofs.lemmas.Result.{err_from_is_err_and}
 use Rattle.command_plan.proofs.Fronts.{one_more_part, part_fails, all_parts}
+use Rattle.command_plan.proofs.Stages.{part_front}
 use Rattle.command_plan.proofs.complaint.write_parts.Goals as goal
 
 pub loop-part-init : goal.loop-part-init
@@ -21,7 +22,7 @@ returns-in_err-write_all-clause-err g c =
     let before = c.loop-part.invariant.written in
     let p = err_from_is_err_and c.from_residual.result c.from_residual.ensures.1 in
     let front = part_fails (λ part. part.now) c.args.parts.now c.loop-part.part-index _ c.as_bytes.result.now before.0 _ _ _ _
-    (search rules) c.as_bytes.ensures.value before.1 c.in_err-write_all.ensures.err before.2 in
+    (search rules) c.as_bytes.ensures.value before.1 (part_front _ _ _ c.in_err-write_all.ensures.err) before.2 in
     rw (p.1) front
 
 pub returns-clause-ok : goal.returns-clause-ok

@@ -11,6 +11,6 @@ returns-in-Ok g c = record {
 pub returns-in-Err : goal.returns-in-Err
 returns-in-Err g c = record {
   at = λ shelf.
-      unsaid c.args.line.now _ _ (record { files = refl; faults = omega arith; misses = omega arith; out_faults = c.in-Err.ensures.cause.later })
+      unsaid c.args.line.now _ _ (record { files = refl; faults = omega arith; misses = omega arith; out_faults = c.in-Err.ensures.cause.later }) refl
       c.in-Err.ensures.cause.failed c.in-Err.ensures.err;
 }

@@ -31,6 +31,7 @@ loop-rest-preserved g c =
         omega (arith, length-append so_far.0 bytes, so_far.2),
         λ is. c.keep-whole.ensures.kept is ∙ ap (λ (l : List ℕ). l ++ take count (c.fill.new.buf ++ behind)) (so_far.3 (c.keep-whole.ensures.before is)) ∙ ap (λ (l : List ℕ). so_far.0 ++ l) same,
       );
+      given = omega (arith, c.fill.ensures.most);
       bound = omega (arith, c.keep-whole.ensures.bound, ap (λ (l : List ℕ). length l) same);
       chunk = omega arith;
       faults = omega arith;

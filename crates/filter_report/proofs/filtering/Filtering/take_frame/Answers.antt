@@ -1,6 +1,6 @@
 use Rattle.std.proofs.Common.{refl, arith, sym, ap, ◌∙◌, ◌++◌, ◌∷◌, ◌+◌, [], List, ℕ, drop, subst, OnOk, OnErr}
 use Rattle.std.specs.List.{concat}
-use Rattle.apf_base.specs.Streams.{AppendsFront, AppendsAll}
+use Rattle.apf_base.specs.Streams.{AppendsAll, AppendsPart}
 use Rattle.std.proofs.lemmas.Result.{err_from_is_err_and}
 use Rattle.filter_core.specs.Replay.{Arrival, after_frame}
 use Rattle.filter_report.proofs.Adding.{adds_these, breaks_these, breaks_none}
@@ -43,4 +43,4 @@ returns-clause-err g c = λ course frames.
     (λ lines was. let before = see lines was in leads (after_frame course arrival) c.frame_lines.new.core (frames ++ c.args.frame.now ∷ []) (lines ++ (c.in_ok-done.done.line ∷ c.in_ok-done.done.more))
     (c.in_ok-done.ensures.along course frames lines before.along (ap (λ (n : ℕ). n + 1) before.frames_taken)))
     c.write_first_and_more.ensures.err
-    (subst (λ (ls : List (List ℕ)). OnErr c.write_first_and_more.result (AppendsFront (g.O.Sink.held c.args.out.now) (g.O.Sink.held c.write_first_and_more.new.out) (concat (c.in_ok-done.done.line ∷ ls)))) c.as_slice.ensures c.write_first_and_more.ensures.front)
+    (subst (λ (ls : List (List ℕ)). OnErr c.write_first_and_more.result (AppendsPart (g.O.Sink.held c.args.out.now) (g.O.Sink.held c.write_first_and_more.new.out) (concat (c.in_ok-done.done.line ∷ ls)))) c.as_slice.ensures c.write_first_and_more.ensures.front)

@@ -6,7 +6,7 @@ use Rattle.filter_report.proofs.Leading.{along_fits, leads_arrival}
 use Rattle.filter_report.specs.Along.{InCourse}
 use Rattle.filter_report.specs.Lines.{BreaksOff}
 use Rattle.filter_report.specs.Report.{Leads}
-use Rattle.filter_report.proofs.filtering.Filtering.take_arrival.Goals as goal
+use Rattle.filter_report.proofs.filtering.Filtering.take_record.Goals as goal
 
 pub returns-in_err-take_due-clause-err : goal.returns-in_err-take_due-clause-err
 returns-in_err-take_due-clause-err g c = λ course frames.
