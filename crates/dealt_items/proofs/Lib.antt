@@ -1,0 +1,4 @@
+pub mod Dealing
+pub mod Sharing
+pub mod Summing
+pub mod Weaving
