@@ -1,0 +1,6 @@
+pub mod Histories
+pub mod Growing
+pub mod Board
+pub mod Order
+pub mod Turn
+pub mod Lanes
