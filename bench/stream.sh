@@ -40,7 +40,7 @@ def run(words):
 
 script = os.path.join(folder, "script")
 with open(script, "w", encoding="ascii") as out:
-    out.write("apf 1\nmac 02:00:00:00:00:01\ncapacity 2048\nstart 1000\nat 1000 address 192.168.1.5/24\n")
+    out.write("apf 1\nmac 02:00:00:00:00:01\ncapacity 2048\nstart 1000\ndrop802 on\ndeny none\nat 1000 address 192.168.1.5/24\n")
 missed = []
 for name, words in {"exec": ["exec", code, None, "0"], "filter": ["filter", script, None]}.items():
     peaks = []
