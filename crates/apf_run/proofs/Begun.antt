@@ -123,7 +123,7 @@ module _ (script : Script) (a b : Stage) where
 
 module _ (script : Script) (sound : IsScript script) (a b : Sinking) (later : a.faults ≤ b.faults) where
   behind : (shelf : Shelving) → Later (stage shelf a) (stage shelf b)
-  behind shelf = record { files = refl; faults = omega arith; misses = omega arith; out_faults = later }
+  behind shelf = record { files = refl; faults = omega arith; misses = omega arith; out_faults = later; board = omega arith }
 
   -- it failed
   pub begin_fails : (fault : ReportFault) → (fault ≡ reports.Write → BreaksOff reports.Write (λ lines. lines ≡ []) (Leads (begun script).told []) a.held b.held)

@@ -1,7 +1,7 @@
 -- A shelf that may fetch every file may fetch those that words name.
 use Rattle.std.proofs.Common.{ℕ, List}
 use Rattle.command_plan.specs.Meaning.{CommandMeaning, nothing, command, MayFetchFor}
-use Rattle.command_plan.specs.Plan.{Plan, Done, Refuse, Ask, OpenCapture, TakeNext, Pick, Say, MayFetch}
+use Rattle.command_plan.specs.Plan.{Plan, Done, Refuse, Ask, OpenCapture, TakeNext, Pick, Say, RunLanes, MayFetch}
 
 module _ (may : List ℕ → Type 0) (all : (name : List ℕ) → may name) where
   fetches : {A : Type 0} (plan : Plan A) → MayFetch may plan
@@ -13,6 +13,7 @@ module _ (may : List ℕ → Type 0) (all : (name : List ℕ) → may name) wher
   fetches (TakeNext input amount rest) = fetches rest
   fetches (Pick P rest) = λ x has. fetches (rest x)
   fetches (Say lines rest) = fetches rest
+  fetches (RunLanes rest) = fetches rest
 
   pub fetches_all : (m : CommandMeaning) → MayFetchFor may m
   fetches_all nothing = tt

@@ -11,7 +11,7 @@ use Rattle.command_plan.specs.declared.fault.Refusal.TheVariants.{BadCapture}
 use Rattle.command_plan.specs.declared.fault.Fault.{Fault}
 use Rattle.command_plan.specs.declared.fault.Refusal.TheVariants as refusals
 use Rattle.command_plan.specs.declared.fault.Input.{Input}
-use Rattle.command_plan.specs.declared.fault.Fault.TheVariants.{Usage, Refused, OutOfMemory, Read, Write, Open}
+use Rattle.command_plan.specs.declared.fault.Fault.TheVariants.{Usage, Refused, OutOfMemory, Read, Write, Open, Board}
 use Rattle.hex.specs.Hex.{IsBytes}
 use Rattle.command_plan.specs.Records.{NextFails}
 use Rattle.command_plan.proofs.Streaming.{GivenSo, tells_end, tells_first}
@@ -130,6 +130,7 @@ module _ (program : List ℕ) (age number : ℕ) (memory : List ℕ) (given : Li
   has_failed (Refused (refusals.TooLarge need limit)) b r are is idle how unread = absurd how
   has_failed Usage b r are is idle how unread = absurd how
   has_failed Write b r are is idle how unread = absurd how
+  has_failed Board b r are is idle how unread = absurd how
   has_failed (Open which) b r are is idle how unread = absurd how
 
 -- the line of a record was not written

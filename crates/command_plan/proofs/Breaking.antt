@@ -11,7 +11,7 @@ use Rattle.command_plan.specs.declared.fault.Fault.TheVariants as faults
 use Rattle.command_plan.specs.Breaking.{BreaksWithin, MayBreak, MayBreakBy}
 use Rattle.command_plan.specs.Meaning.{CommandMeaning, nothing, command, Does}
 use Rattle.command_plan.specs.Status.{status_of}
-use Rattle.command_plan.specs.Plan.{Plan, Done, Refuse, Ask, OpenCapture, TakeNext, Pick, Say}
+use Rattle.command_plan.specs.Plan.{Plan, Done, Refuse, Ask, OpenCapture, TakeNext, Pick, Say, RunLanes}
 use Rattle.command_plan.specs.Follows.{Stage, Later, Follows}
 use Rattle.command_plan.specs.Follows as f
 use Rattle.command_plan.proofs.Endings.{ended_unwritten}
@@ -92,6 +92,16 @@ module _ {A : Type 0} where
         all.1,
         inr (all.0, refl, subst (λ (bytes : Option (List ℕ)). MayBreak rest a.shelf.file bytes all.0 all.1 b.shelf.left) left there),
         within_behind a.out.held c.out.held b.out.held lines all.0 all.1 appends all.3,
+      )
+  breaks (RunLanes rest) a b r (f.RunsLanes.no_memory h) is = unbroken r (Err faults.OutOfMemory) h.is is (λ e. cc)
+  breaks (RunLanes rest) a b r (f.RunsLanes.refused h rose) is = unbroken r (Err faults.Board) h.is is (λ e. cc)
+  breaks (RunLanes rest) a b r (f.RunsLanes.ran c s more) is =
+      let all = breaks rest c b r more is in
+      let there = may_break_at rest a c all.0 all.1 b.shelf.left s.idle.later all.2 in (
+        all.0,
+        all.1,
+        subst (λ (bytes : Option (List ℕ)). MayBreak rest a.shelf.file bytes all.0 all.1 b.shelf.left) s.left there,
+        within_kept a.out.held c.out.held b.out.held all.0 all.1 s.idle.held all.3,
       )
 
 -- ---- words

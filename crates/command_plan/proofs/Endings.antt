@@ -16,7 +16,7 @@ use Rattle.command_plan.specs.declared.fault.Input.{Input}
 use Rattle.command_plan.specs.Ending.{MayEnd, Leaves, IsOwn, Calm}
 use Rattle.command_plan.specs.Meaning.{CommandMeaning, nothing, command, IsAccepted, Does, IsQuietFor, MayEndBy, ReadsWholeFor}
 use Rattle.command_plan.specs.Status.{status_of, refusal_status}
-use Rattle.command_plan.specs.Plan.{Plan, Done, Refuse, Ask, OpenCapture, TakeNext, Pick, Say, IsQuiet, MayRefuse, ReadsWhole}
+use Rattle.command_plan.specs.Plan.{Plan, Done, Refuse, Ask, OpenCapture, TakeNext, Pick, Say, RunLanes, IsQuiet, MayRefuse, ReadsWhole}
 use Rattle.command_plan.specs.Follows.{Stage, Later, Follows}
 use Rattle.command_plan.specs.Follows as f
 use Rattle.command_plan.proofs.Saying.{all_and_all, all_and_front}
@@ -53,6 +53,9 @@ module _ {A : Type 0} where
   later (Say lines rest) a b r (f.Says.no_memory is l first) = l
   later (Say lines rest) a b r (f.Says.unwritten is l left rose part) = l
   later (Say lines rest) a b r (f.Says.said c l left appends more) = later_trans a c b l (later rest c b r more)
+  later (RunLanes rest) a b r (f.RunsLanes.no_memory h) = h.idle.later
+  later (RunLanes rest) a b r (f.RunsLanes.refused h rose) = h.idle.later
+  later (RunLanes rest) a b r (f.RunsLanes.ran c s more) = later_trans a c b s.idle.later (later rest c b r more)
 
   -- ---- causes from outside
 
@@ -61,6 +64,7 @@ module _ {A : Type 0} where
   Owes a b (Err (faults.Read input)) = Rose a.shelf.faults b.shelf.faults
   Owes a b (Err (faults.Open input)) = Rose a.shelf.misses b.shelf.misses
   Owes a b (Err faults.Write) = Rose a.out.faults b.out.faults
+  Owes a b (Err faults.Board) = Rose a.board b.board
   Owes a b (Err faults.Usage) = ⊥
   Owes a b result = ⊤
 
@@ -72,6 +76,7 @@ module _ {A : Type 0} where
   owes_before a c b (Err (faults.Read input)) l h = rose_before a.shelf.faults c.shelf.faults b.shelf.faults l.faults h
   owes_before a c b (Err faults.Write) l h = rose_before a.out.faults c.out.faults b.out.faults l.out_faults h
   owes_before a c b (Err (faults.Open input)) l h = rose_before a.shelf.misses c.shelf.misses b.shelf.misses l.misses h
+  owes_before a c b (Err faults.Board) l h = rose_before a.board c.board b.board l.board h
 
   owes_at : (a b : Stage) (r end : Result A Fault) → r ≡ end → Owes a b end → Owes a b r
   owes_at a b r end is h = subst (λ (x : Result A Fault). Owes a b x) (sym is) h
@@ -99,6 +104,9 @@ module _ {A : Type 0} where
   owes (Say lines rest) a b r (f.Says.no_memory is l first) = owes_at a b r (Err faults.OutOfMemory) is tt
   owes (Say lines rest) a b r (f.Says.unwritten is l left rose part) = owes_at a b r (Err faults.Write) is rose
   owes (Say lines rest) a b r (f.Says.said c l left appends more) = owes_before a c b r l (owes rest c b r more)
+  owes (RunLanes rest) a b r (f.RunsLanes.no_memory h) = owes_at a b r (Err faults.OutOfMemory) h.is tt
+  owes (RunLanes rest) a b r (f.RunsLanes.refused h rose) = owes_at a b r (Err faults.Board) h.is rose
+  owes (RunLanes rest) a b r (f.RunsLanes.ran c s more) = owes_before a c b r s.idle.later (owes rest c b r more)
 
   -- ---- what stands on the sink
 
@@ -109,6 +117,7 @@ module _ {A : Type 0} where
   leaves_nothing old new (Err faults.Usage) h = keeps_nil old new h
   leaves_nothing old new (Err (faults.Read input)) h = keeps_nil old new h
   leaves_nothing old new (Err (faults.Open input)) h = keeps_nil old new h
+  leaves_nothing old new (Err faults.Board) h = keeps_nil old new h
   leaves_nothing old new (Err faults.Write) h = ([], [], refl, keeps_nil old new h)
 
   leaves_kept : (a b c : Option (List ℕ)) (lines : List (List ℕ)) (r : Result A Fault) → Keeps a b → Leaves b c lines r → Leaves a c lines r
@@ -118,6 +127,7 @@ module _ {A : Type 0} where
   leaves_kept a b c lines (Err faults.Usage) k h = Appends-before a b c (concat lines) k h
   leaves_kept a b c lines (Err (faults.Read input)) k h = Appends-before a b c (concat lines) k h
   leaves_kept a b c lines (Err (faults.Open input)) k h = Appends-before a b c (concat lines) k h
+  leaves_kept a b c lines (Err faults.Board) k h = Appends-before a b c (concat lines) k h
   leaves_kept a b c lines (Err faults.Write) k h = front_before a b c (concat lines) k h
 
   leaves_behind : (a b c : Option (List ℕ)) (xs ys : List (List ℕ)) (r : Result A Fault) → AppendsAll a b xs → Leaves b c ys r → Leaves a c (xs ++ ys) r
@@ -127,6 +137,7 @@ module _ {A : Type 0} where
   leaves_behind a b c xs ys (Err faults.Usage) k h = all_and_all a b c xs ys k h
   leaves_behind a b c xs ys (Err (faults.Read input)) k h = all_and_all a b c xs ys k h
   leaves_behind a b c xs ys (Err (faults.Open input)) k h = all_and_all a b c xs ys k h
+  leaves_behind a b c xs ys (Err faults.Board) k h = all_and_all a b c xs ys k h
   leaves_behind a b c xs ys (Err faults.Write) k h = all_and_front a b c xs ys k h
 
   leaves_at : (a b : Option (List ℕ)) (lines : List (List ℕ)) (r end : Result A Fault) → r ≡ end → Leaves a b lines end → Leaves a b lines r
@@ -188,6 +199,11 @@ module _ {A : Type 0} where
         inr (all.0, refl, may_end_at rest a c all.0 r l all.1),
         leaves_behind a.out.held c.out.held b.out.held lines all.0 r appends all.2,
       )
+  stands (RunLanes rest) a b r (f.RunsLanes.no_memory h) = ([], inl (refl, inl h.is), leaves_nothing a.out.held b.out.held r h.idle.held)
+  stands (RunLanes rest) a b r (f.RunsLanes.refused h rose) = ([], inl (refl, inr h.is), leaves_nothing a.out.held b.out.held r h.idle.held)
+  stands (RunLanes rest) a b r (f.RunsLanes.ran c s more) =
+      let all = stands rest c b r more in
+      (all.0, inr (may_end_at rest a c all.0 r s.idle.later all.1), leaves_kept a.out.held c.out.held b.out.held all.0 r s.idle.held all.2)
 
   -- ---- where no count rose
 
@@ -199,6 +215,7 @@ module _ {A : Type 0} where
   own a b (Err (faults.Read input)) h q = absurd (q.faults h)
   own a b (Err (faults.Open input)) h q = absurd (q.misses h)
   own a b (Err faults.Write) h q = absurd (q.out_faults h)
+  own a b (Err faults.Board) h q = absurd (q.board h)
 
   -- but for a failed write, whole lines stand
   pub leaves_all : (old new : Option (List ℕ)) (lines : List (List ℕ)) (r : Result A Fault) → (r ≡ Err faults.Write → ⊥) → Leaves old new lines r → AppendsAll old new lines
@@ -208,6 +225,7 @@ module _ {A : Type 0} where
   leaves_all old new lines (Err faults.Usage) not h = h
   leaves_all old new lines (Err (faults.Read input)) not h = h
   leaves_all old new lines (Err (faults.Open input)) not h = h
+  leaves_all old new lines (Err faults.Board) not h = h
   leaves_all old new lines (Err faults.Write) not h = absurd (not refl)
 
   own_written : (r : Result A Fault) → IsOwn r → r ≡ Err faults.Write → ⊥
@@ -241,6 +259,9 @@ module _ {A : Type 0} where
   read_whole (Say lines rest) whole a b x h at (f.Says.no_memory is l first) = absurd (cc)
   read_whole (Say lines rest) whole a b x h at (f.Says.unwritten is l left rose part) = absurd (cc)
   read_whole (Say lines rest) whole a b x h at (f.Says.said c l left appends more) = read_whole rest whole c b x h (λ t. subst IsAtEnd (sym left) (at t)) more
+  read_whole (RunLanes rest) whole a b x h at (f.RunsLanes.no_memory e) = no_fault faults.OutOfMemory a b x e
+  read_whole (RunLanes rest) whole a b x h at (f.RunsLanes.refused e rose) = no_fault faults.Board a b x e
+  read_whole (RunLanes rest) whole a b x h at (f.RunsLanes.ran c s more) = read_whole rest whole c b x h (λ t. subst IsAtEnd (sym s.left) (at t)) more
 
 -- ---- plans that read and check everything before they write
 
@@ -285,6 +306,7 @@ module _ {A : Type 0} (by_and_by : Bool) where
   loud (Say lines rest) a b r q (f.Says.no_memory is l first) = never_early r (Err faults.OutOfMemory) is (λ e. e)
   loud (Say lines rest) a b r q (f.Says.unwritten is l left rose part) = never_early r (Err faults.Write) is (λ e. e)
   loud (Say lines rest) a b r q (f.Says.said c l left appends more) = loud rest c b r q more
+  loud (RunLanes rest) a b r q h = absurd q.0
 
   -- before them it has written nothing
   quiet : (p : Plan A) (a b : Stage) (r : Result A Fault) → IsQuiet by_and_by false p → Follows p a b r → IsEarly r → Keeps a.out.held b.out.held
@@ -313,6 +335,9 @@ module _ {A : Type 0} (by_and_by : Bool) where
   quiet (Say lines rest) a b r q (f.Says.no_memory is l first) early = never_early r (Err faults.OutOfMemory) is (λ e. e) early
   quiet (Say lines rest) a b r q (f.Says.unwritten is l left rose part) early = never_early r (Err faults.Write) is (λ e. e) early
   quiet (Say lines rest) a b r q (f.Says.said c l left appends more) early = absurd (loud rest c b r q more early)
+  quiet (RunLanes rest) a b r q (f.RunsLanes.no_memory h) early = h.idle.held
+  quiet (RunLanes rest) a b r q (f.RunsLanes.refused h rose) early = h.idle.held
+  quiet (RunLanes rest) a b r q (f.RunsLanes.ran c s more) early = Keeps-trans a.out.held c.out.held b.out.held s.idle.held (quiet rest c b r q.1 more early)
 
 module _ (by_and_by : Bool) where
   by_status : (end : Result (Unit {0}) Fault) → (status_of end ≡ 0 → ⊥) → (status_of end ≡ 65 → ⊥) → (status_of end ≡ 70 → ⊥) → (status_of end ≡ 72 → ⊥)
@@ -332,6 +357,7 @@ module _ (by_and_by : Bool) where
   by_status (Err (faults.Read input)) ok capture memory write read = λ taken. read taken refl
   by_status (Err faults.Write) ok capture memory write read = write refl
   by_status (Err (faults.Open input)) ok capture memory write read = tt
+  by_status (Err faults.Board) ok capture memory write read = tt
 
 -- ---- statuses
 
@@ -366,6 +392,7 @@ file_status which long (faults.Refused CodeTooLong) h = absurd h
 file_status which long (faults.Refused (TooLarge need limit)) h = absurd h
 file_status which long faults.Usage h = absurd h
 file_status which long faults.Write h = absurd h
+file_status which long faults.Board h = absurd h
 
 module _ (a b : Stage) where
   read_owes : (end : Result (Unit {0}) Fault) → Owes a b end → status_of end ≡ 71 → Rose a.shelf.faults b.shelf.faults
@@ -376,6 +403,7 @@ module _ (a b : Stage) where
   read_owes (Err faults.Usage) h is = absurd (omega arith)
   read_owes (Err faults.Write) h is = absurd (omega arith)
   read_owes (Err (faults.Open input)) h is = absurd (omega arith)
+  read_owes (Err faults.Board) h is = absurd (omega arith)
 
   write_owes : (end : Result (Unit {0}) Fault) → Owes a b end → status_of end ≡ 72 → Rose a.out.faults b.out.faults
   write_owes (Err faults.Write) h is = h
@@ -385,6 +413,7 @@ module _ (a b : Stage) where
   write_owes (Err faults.Usage) h is = absurd (omega arith)
   write_owes (Err (faults.Read input)) h is = absurd (omega arith)
   write_owes (Err (faults.Open input)) h is = absurd (omega arith)
+  write_owes (Err faults.Board) h is = absurd (omega arith)
 
   open_owes : (end : Result (Unit {0}) Fault) → Owes a b end → status_of end ≡ 73 → Rose a.shelf.misses b.shelf.misses
   open_owes (Err (faults.Open input)) h is = h
@@ -394,6 +423,17 @@ module _ (a b : Stage) where
   open_owes (Err faults.Usage) h is = absurd (omega arith)
   open_owes (Err (faults.Read input)) h is = absurd (omega arith)
   open_owes (Err faults.Write) h is = absurd (omega arith)
+  open_owes (Err faults.Board) h is = absurd (omega arith)
+
+  board_owes : (end : Result (Unit {0}) Fault) → Owes a b end → status_of end ≡ 76 → Rose a.board b.board
+  board_owes (Err faults.Board) h is = h
+  board_owes (Ok x) h is = absurd (omega arith)
+  board_owes (Err (faults.Refused refusal)) h is = absurd (omega (arith, (refusal_between refusal).1))
+  board_owes (Err faults.OutOfMemory) h is = absurd (omega arith)
+  board_owes (Err faults.Usage) h is = absurd (omega arith)
+  board_owes (Err (faults.Read input)) h is = absurd (omega arith)
+  board_owes (Err faults.Write) h is = absurd (omega arith)
+  board_owes (Err (faults.Open input)) h is = absurd (omega arith)
 
   usage_owes : (end : Result (Unit {0}) Fault) → Owes a b end → status_of end ≡ 64 → ⊥
   usage_owes (Err faults.Usage) h is = h
@@ -403,6 +443,7 @@ module _ (a b : Stage) where
   usage_owes (Err (faults.Read input)) h is = omega arith
   usage_owes (Err faults.Write) h is = omega arith
   usage_owes (Err (faults.Open input)) h is = omega arith
+  usage_owes (Err faults.Board) h is = omega arith
 
 pub ended_well : (end : Result (Unit {0}) Fault) → status_of end ≡ 0 → end ≡ Ok tt
 ended_well (Ok x) is = refl
@@ -412,6 +453,7 @@ ended_well (Err faults.Usage) is = absurd (omega arith)
 ended_well (Err (faults.Read input)) is = absurd (omega arith)
 ended_well (Err faults.Write) is = absurd (omega arith)
 ended_well (Err (faults.Open input)) is = absurd (omega arith)
+ended_well (Err faults.Board) is = absurd (omega arith)
 
 pub ended_unwritten : (end : Result (Unit {0}) Fault) → status_of end ≡ 72 → end ≡ Err faults.Write
 ended_unwritten (Err faults.Write) is = refl
@@ -421,6 +463,7 @@ ended_unwritten (Err faults.OutOfMemory) is = absurd (omega arith)
 ended_unwritten (Err faults.Usage) is = absurd (omega arith)
 ended_unwritten (Err (faults.Read input)) is = absurd (omega arith)
 ended_unwritten (Err (faults.Open input)) is = absurd (omega arith)
+ended_unwritten (Err faults.Board) is = absurd (omega arith)
 
 at_end : (p : Plan (Unit {0})) (a b : Stage) (end : Result (Unit {0}) Fault) → Follows p a b end → status_of end ≡ 0 → ReadsWhole false p → IsAtEnd b.shelf.left
 at_end p a b end h is whole = read_whole p false a b tt whole (λ t. absurd (cc)) (subst (λ (e : Result (Unit {0}) Fault). Follows p a b e) (ended_well end is) h)
@@ -473,6 +516,10 @@ module _ (a b : Stage) (end : Result (Unit {0}) Fault) where
   pub does_open : (m : CommandMeaning) → Does m a b end → status_of end ≡ 73 → Rose a.shelf.misses b.shelf.misses
   does_open nothing h is = neither 73 (status_of end) (wrong a b end h) is (λ e. omega arith) (λ e. omega arith)
   does_open (command p) h is = open_owes a b end (owes p a b end h) is
+
+  pub does_board : (m : CommandMeaning) → Does m a b end → status_of end ≡ 76 → Rose a.board b.board
+  does_board nothing h is = neither 76 (status_of end) (wrong a b end h) is (λ e. omega arith) (λ e. omega arith)
+  does_board (command p) h is = board_owes a b end (owes p a b end h) is
 
   pub does_usage : (m : CommandMeaning) → Does m a b end → status_of end ≡ 64 → IsAccepted m → ⊥
   does_usage nothing h is accepted = accepted

@@ -7,7 +7,7 @@ use Rattle.command_plan.specs.Files.{file_limit}
 use Rattle.command_plan.specs.Follows.{Shelving, Sinking, Stage, Follows, Reads, Thinks, Writes, shelving, sinking, stage}
 use Rattle.command_plan.specs.Follows as f
 use Rattle.pcap_files.specs.Stream.{Told}
-use Rattle.command_plan.specs.Plan.{Plan, Done, Refuse, Ask, OpenCapture, TakeNext, Pick, Say, opens, ◌>>=◌, asks, picks, says, MayFetch, MayHold}
+use Rattle.command_plan.specs.Plan.{Plan, Done, Refuse, Ask, OpenCapture, TakeNext, Pick, Say, RunLanes, opens, ◌>>=◌, asks, picks, says, MayFetch, MayHold}
 use Rattle.command_plan.proofs.Stages.{no_fault}
 
 module _ {A : Type 0} (may : List ℕ → Type 0) where
@@ -49,6 +49,9 @@ module _ {A : Type 0} (may : List ℕ → Type 0) where
   behind (Say lines rest) next x a b (f.Says.no_memory is later first) h = absurd (cc)
   behind (Say lines rest) next x a b (f.Says.unwritten is later left rose part) h = absurd (cc)
   behind (Say lines rest) next x a b (f.Says.said c later left appends more) h = behind rest next x c b more h
+  behind (RunLanes rest) next x a b (f.RunsLanes.no_memory e) h = no_fault faults.OutOfMemory a b x e
+  behind (RunLanes rest) next x a b (f.RunsLanes.refused e rose) h = no_fault faults.Board a b x e
+  behind (RunLanes rest) next x a b (f.RunsLanes.ran c s more) h = behind rest next x c b more h
 
   pub behind_read : {B : Type 0} (p : Plan B) (next : B → Plan A) (x : B) (a b : Shelving) → Reads p a b (Ok x) → MayFetch may (p >>= next) → MayFetch may (next x)
   behind_read p next x a b h m = behind p next x _ _ (h.at (sinking None 0)) m

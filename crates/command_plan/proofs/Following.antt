@@ -9,7 +9,7 @@ use Rattle.command_plan.specs.declared.fault.Refusal.{Refusal}
 use Rattle.command_plan.specs.declared.fault.Refusal.TheVariants.{TooLong}
 use Rattle.command_plan.specs.declared.fault.Fault.{Fault}
 use Rattle.command_plan.specs.declared.fault.Fault.TheVariants as faults
-use Rattle.command_plan.specs.Plan.{Plan, Done, Refuse, Ask, OpenCapture, TakeNext, Pick, Say, MayHold, MayTell, ◌>>=◌, picks}
+use Rattle.command_plan.specs.Plan.{Plan, Done, Refuse, Ask, OpenCapture, TakeNext, Pick, Say, RunLanes, MayHold, MayTell, ◌>>=◌, picks}
 use Rattle.pcap_files.specs.Stream.{Told, told}
 use Rattle.command_plan.specs.Amounts.{Amount, IsTakenOf, IsBehindHead}
 use Rattle.command_plan.specs.Follows.{Stage, Later, Idle, Rests, EndsHere, Asks, Picks, Says, Ends, Follows}
@@ -69,6 +69,10 @@ module _ {A : Type 0} where
       (part_before a.out.held c.out.held b.out.held (concat lines) s.idle.held part)
   before (Say lines rest) a c b r s (f.Says.said d later left appends more) =
       f.Says.said d (later_trans a c d s.idle.later later) (left ∙ s.left) (Appends-before a.out.held c.out.held d.out.held (concat lines) s.idle.held appends) more
+  before (RunLanes rest) a c b r s (f.RunsLanes.no_memory h) = f.RunsLanes.no_memory (ends_before (Err faults.OutOfMemory) a c b r s.idle h)
+  before (RunLanes rest) a c b r s (f.RunsLanes.refused h rose) =
+      f.RunsLanes.refused (ends_before (Err faults.Board) a c b r s.idle h) (rose_before a.board c.board b.board s.idle.later.board rose)
+  before (RunLanes rest) a c b r s (f.RunsLanes.ran d t more) = f.RunsLanes.ran d (rests_trans a c d s t) more
 
   -- want of memory, at any node
   pub lacks : (p : Plan A) (a b : Stage) (r : Result A Fault) → r ≡ Err faults.OutOfMemory → Idle a b → Follows p a b r
@@ -80,6 +84,7 @@ module _ {A : Type 0} where
   lacks (TakeNext input amount rest) a b r is idle = f.Takes.no_memory (record { is = is; idle = idle })
   lacks (Pick P rest) a b r is idle = f.Picks.no_memory (record { is = is; idle = idle })
   lacks (Say lines rest) a b r is idle = f.Says.no_memory is idle.later (none_first a.out.held b.out.held lines idle.held)
+  lacks (RunLanes rest) a b r is idle = f.RunsLanes.no_memory (record { is = is; idle = idle })
 
   pub done : (x : A) (a : Stage) (r : Result A Fault) → r ≡ Ok x → Follows (Done x) a a r
   unfolding Follows
@@ -117,6 +122,9 @@ module _ {A B : Type 0} where
   then_on (Say lines rest) next x a c b r (f.Says.no_memory is later first) k = absurd (cc)
   then_on (Say lines rest) next x a c b r (f.Says.unwritten is later left rose part) k = absurd (cc)
   then_on (Say lines rest) next x a c b r (f.Says.said d later left appends more) k = f.Says.said d later left appends (then_on rest next x d c b r more k)
+  then_on (RunLanes rest) next x a c b r (f.RunsLanes.no_memory h) k = no_fault faults.OutOfMemory a c x h
+  then_on (RunLanes rest) next x a c b r (f.RunsLanes.refused h rose) k = no_fault faults.Board a c x h
+  then_on (RunLanes rest) next x a c b r (f.RunsLanes.ran d s more) k = f.RunsLanes.ran d s (then_on rest next x d c b r more k)
 
   -- the first plan ended by a fault, and the call with it
   pub fails : (p : Plan A) (next : A → Plan B) (fault : Fault) (a b : Stage) (r : Result B Fault) → r ≡ Err fault → Follows p a b (Err fault) → Follows (p >>= next) a b r
@@ -143,6 +151,9 @@ module _ {A B : Type 0} where
   fails (Say lines rest) next fault a b r is (f.Says.no_memory e later first) = f.Says.no_memory (same_fault faults.OutOfMemory fault r is e) later first
   fails (Say lines rest) next fault a b r is (f.Says.unwritten e later left rose part) = f.Says.unwritten (same_fault faults.Write fault r is e) later left rose part
   fails (Say lines rest) next fault a b r is (f.Says.said d later left appends more) = f.Says.said d later left appends (fails rest next fault d b r is more)
+  fails (RunLanes rest) next fault a b r is (f.RunsLanes.no_memory h) = f.RunsLanes.no_memory (ends_as faults.OutOfMemory fault a b r is h)
+  fails (RunLanes rest) next fault a b r is (f.RunsLanes.refused h rose) = f.RunsLanes.refused (ends_as faults.Board fault a b r is h) rose
+  fails (RunLanes rest) next fault a b r is (f.RunsLanes.ran d s more) = f.RunsLanes.ran d s (fails rest next fault d b r is more)
 
 module _ {B : Type 0} where
   -- something with the property was chosen

@@ -1,3 +1,4 @@
+pub mod Beside
 pub mod Breaking
 pub mod Endings
 pub mod Fetching

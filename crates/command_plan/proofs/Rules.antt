@@ -1,39 +1,46 @@
--- How a call is put together from its steps, as rules for `search`.
+-- How a call is put together from its steps, as rules for `search`: a step that reads or writes alone serves beside every
+-- board.
 use Rattle.std.proofs.Common.{◌≡◌, ℕ, Bool, true, false, List, Option, None, Some, Result, Ok, Err, sym, subst}
 use Rattle.command_plan.specs.declared.fault.Fault.{Fault}
 use Rattle.command_plan.specs.declared.fault.Fault.TheVariants as faults
 use Rattle.command_plan.specs.Meaning.{CommandMeaning, nothing, command, spelled, named_so, Does, MayFetchFor}
 use Rattle.command_plan.specs.Plan.{Plan, says, MayFetch, ◌>>=◌}
 use Rattle.command_plan.specs.Follows as f
+use Rattle.command_plan.proofs.Beside.{reads_beside, writes_beside}
 use Rattle.command_plan.proofs.Stages.{idle_refl, rests_refl}
-use Rattle.command_plan.specs.Follows.{Stage, Shelving, Sinking, Follows, Reads, Writes, Thinks, stage}
+use Rattle.command_plan.specs.Follows.{Stage, Shelving, Sinking, Follows, Reads, Writes, Thinks, stage, stage_beside}
 use Rattle.command_plan.proofs.Following.{then_on, then_as, then_pick, picked, fails, lacks, lacks_by, err_is, done, refused}
 use Rattle.command_plan.proofs.Fetching.{may_ask, behind_read, behind_write, behind_think}
 
 module _ {A B : Type 0} where
-  pub read_then : (p : Plan A) (next : A → Plan B) (x : A) (a c : Shelving) (out : Sinking) (b : Stage) (r : Result B Fault) → Reads p a c (Ok x)
-      → Follows (next x) (stage c out) b r → Follows (p >>= next) (stage a out) b r
-  read_then p next x a c out b r first more = then_on p next x (stage a out) (stage c out) b r (first.at out) more
+  pub read_then : (p : Plan A) (next : A → Plan B) (x : A) (a c : Shelving) (out : Sinking) (board : ℕ) (b : Stage) (r : Result B Fault) → Reads p a c (Ok x)
+      → Follows (next x) (stage_beside c out board) b r → Follows (p >>= next) (stage_beside a out board) b r
+  read_then p next x a c out board b r first more =
+      then_on p next x (stage_beside a out board) (stage_beside c out board) b r (reads_beside p a c out board (Ok x) first) more
 
-  pub read_fails : (p : Plan A) (next : A → Plan B) (fault : Fault) (a b : Shelving) (out : Sinking) (r : Result B Fault) → Reads p a b (Err fault) → r ≡ Err fault
-      → Follows (p >>= next) (stage a out) (stage b out) r
-  read_fails p next fault a b out r first is = fails p next fault (stage a out) (stage b out) r is (first.at out)
+  pub read_fails : (p : Plan A) (next : A → Plan B) (fault : Fault) (a b : Shelving) (out : Sinking) (board : ℕ) (r : Result B Fault) → Reads p a b (Err fault) → r ≡ Err fault
+      → Follows (p >>= next) (stage_beside a out board) (stage_beside b out board) r
+  read_fails p next fault a b out board r first is =
+      fails p next fault (stage_beside a out board) (stage_beside b out board) r is (reads_beside p a b out board (Err fault) first)
 
   -- the answer is known to be this
-  pub read_as : (p : Plan A) (next : A → Plan B) (o x : A) (a c : Shelving) (out : Sinking) (b : Stage) (r : Result B Fault) → Reads p a c (Ok o) → o ≡ x
-      → Follows (next x) (stage c out) b r → Follows (p >>= next) (stage a out) b r
-  read_as p next o x a c out b r first is more = then_as p next o x (stage a out) (stage c out) b r is (first.at out) more
+  pub read_as : (p : Plan A) (next : A → Plan B) (o x : A) (a c : Shelving) (out : Sinking) (board : ℕ) (b : Stage) (r : Result B Fault) → Reads p a c (Ok o) → o ≡ x
+      → Follows (next x) (stage_beside c out board) b r → Follows (p >>= next) (stage_beside a out board) b r
+  read_as p next o x a c out board b r first is more =
+      then_as p next o x (stage_beside a out board) (stage_beside c out board) b r is (reads_beside p a c out board (Ok o) first) more
 
   pub think_as : (p : Plan A) (next : A → Plan B) (o x : A) (a b : Stage) (r : Result B Fault) → Thinks p (Ok o) → o ≡ x → Follows (next x) a b r → Follows (p >>= next) a b r
   think_as p next o x a b r first is more = then_as p next o x a a b r is (first.at a) more
 
-  pub write_then : (p : Plan A) (next : A → Plan B) (x : A) (a c : Sinking) (shelf : Shelving) (b : Stage) (r : Result B Fault) → Writes p a c (Ok x)
-      → Follows (next x) (stage shelf c) b r → Follows (p >>= next) (stage shelf a) b r
-  write_then p next x a c shelf b r first more = then_on p next x (stage shelf a) (stage shelf c) b r (first.at shelf) more
+  pub write_then : (p : Plan A) (next : A → Plan B) (x : A) (a c : Sinking) (shelf : Shelving) (board : ℕ) (b : Stage) (r : Result B Fault) → Writes p a c (Ok x)
+      → Follows (next x) (stage_beside shelf c board) b r → Follows (p >>= next) (stage_beside shelf a board) b r
+  write_then p next x a c shelf board b r first more =
+      then_on p next x (stage_beside shelf a board) (stage_beside shelf c board) b r (writes_beside p a c shelf board (Ok x) first) more
 
-  pub write_fails : (p : Plan A) (next : A → Plan B) (fault : Fault) (a b : Sinking) (shelf : Shelving) (r : Result B Fault) → Writes p a b (Err fault) → r ≡ Err fault
-      → Follows (p >>= next) (stage shelf a) (stage shelf b) r
-  write_fails p next fault a b shelf r first is = fails p next fault (stage shelf a) (stage shelf b) r is (first.at shelf)
+  pub write_fails : (p : Plan A) (next : A → Plan B) (fault : Fault) (a b : Sinking) (shelf : Shelving) (board : ℕ) (r : Result B Fault) → Writes p a b (Err fault) → r ≡ Err fault
+      → Follows (p >>= next) (stage_beside shelf a board) (stage_beside shelf b board) r
+  write_fails p next fault a b shelf board r first is =
+      fails p next fault (stage_beside shelf a board) (stage_beside shelf b board) r is (writes_beside p a b shelf board (Err fault) first)
 
   pub think_then : (p : Plan A) (next : A → Plan B) (x : A) (a b : Stage) (r : Result B Fault) → Thinks p (Ok x) → Follows (next x) a b r → Follows (p >>= next) a b r
   think_then p next x a b r first more = then_on p next x a a b r (first.at a) more
@@ -43,22 +50,22 @@ module _ {A B : Type 0} where
 
 module _ {B : Type 0} where
   -- the lines that were written are the ones that were to be
-  pub say_then : (lines due : List (List ℕ)) (next : Unit {0} → Plan B) (a c : Sinking) (shelf : Shelving) (b : Stage) (r : Result B Fault) → Writes (says lines) a c (Ok tt) → lines ≡ due
-      → Follows (next tt) (stage shelf c) b r → Follows (says due >>= next) (stage shelf a) b r
-  say_then lines due next a c shelf b r first is more =
-      write_then (says due) next tt a c shelf b r (subst (λ (l : List (List ℕ)). Writes (says l) a c (Ok tt)) is first) more
+  pub say_then : (lines due : List (List ℕ)) (next : Unit {0} → Plan B) (a c : Sinking) (shelf : Shelving) (board : ℕ) (b : Stage) (r : Result B Fault) → Writes (says lines) a c (Ok tt) → lines ≡ due
+      → Follows (next tt) (stage_beside shelf c board) b r → Follows (says due >>= next) (stage_beside shelf a board) b r
+  say_then lines due next a c shelf board b r first is more =
+      write_then (says due) next tt a c shelf board b r (subst (λ (l : List (List ℕ)). Writes (says l) a c (Ok tt)) is first) more
 
-  pub say_fails : (lines due : List (List ℕ)) (next : Unit {0} → Plan B) (fault : Fault) (a b : Sinking) (shelf : Shelving) (r : Result B Fault) → Writes (says lines) a b (Err fault)
-      → lines ≡ due → r ≡ Err fault → Follows (says due >>= next) (stage shelf a) (stage shelf b) r
-  say_fails lines due next fault a b shelf r first is e =
-      write_fails (says due) next fault a b shelf r (subst (λ (l : List (List ℕ)). Writes (says l) a b (Err fault)) is first) e
+  pub say_fails : (lines due : List (List ℕ)) (next : Unit {0} → Plan B) (fault : Fault) (a b : Sinking) (shelf : Shelving) (board : ℕ) (r : Result B Fault) → Writes (says lines) a b (Err fault)
+      → lines ≡ due → r ≡ Err fault → Follows (says due >>= next) (stage_beside shelf a board) (stage_beside shelf b board) r
+  say_fails lines due next fault a b shelf board r first is e =
+      write_fails (says due) next fault a b shelf board r (subst (λ (l : List (List ℕ)). Writes (says l) a b (Err fault)) is first) e
 
 module _ {A : Type 0} where
-  pub reads_at : (p : Plan A) (a b : Shelving) (out : Sinking) (r : Result A Fault) → Reads p a b r → Follows p (stage a out) (stage b out) r
-  reads_at p a b out r h = h.at out
+  pub reads_at : (p : Plan A) (a b : Shelving) (out : Sinking) (board : ℕ) (r : Result A Fault) → Reads p a b r → Follows p (stage_beside a out board) (stage_beside b out board) r
+  reads_at p a b out board r h = reads_beside p a b out board r h
 
-  pub writes_at : (p : Plan A) (a b : Sinking) (shelf : Shelving) (r : Result A Fault) → Writes p a b r → Follows p (stage shelf a) (stage shelf b) r
-  writes_at p a b shelf r h = h.at shelf
+  pub writes_at : (p : Plan A) (a b : Sinking) (shelf : Shelving) (board : ℕ) (r : Result A Fault) → Writes p a b r → Follows p (stage_beside shelf a board) (stage_beside shelf b board) r
+  writes_at p a b shelf board r h = writes_beside p a b shelf board r h
 
   pub reads_by : (p : Plan A) (a b : Shelving) (r : Result A Fault) → ((out : Sinking) → Follows p (stage a out) (stage b out) r) → Reads p a b r
   reads_by p a b r h = record { at = h }
@@ -69,9 +76,10 @@ module _ {A : Type 0} where
   pub thinks_by : (p : Plan A) (r : Result A Fault) → ((s : Stage) → Follows p s s r) → Thinks p r
   thinks_by p r h = record { at = h }
 
-pub written : (lines due : List (List ℕ)) (a b : Sinking) (shelf : Shelving) (r : Result (Unit {0}) Fault) → Writes (says lines) a b r → lines ≡ due
-    → Follows (says due) (stage shelf a) (stage shelf b) r
-written lines due a b shelf r first is = subst (λ (l : List (List ℕ)). Follows (says l) (stage shelf a) (stage shelf b) r) is (first.at shelf)
+pub written : (lines due : List (List ℕ)) (a b : Sinking) (shelf : Shelving) (board : ℕ) (r : Result (Unit {0}) Fault) → Writes (says lines) a b r → lines ≡ due
+    → Follows (says due) (stage_beside shelf a board) (stage_beside shelf b board) r
+written lines due a b shelf board r first is =
+    subst (λ (l : List (List ℕ)). Follows (says l) (stage_beside shelf a board) (stage_beside shelf b board) r) is (writes_beside (says lines) a b shelf board r first)
 
 pub ruleset following = (read_then, read_as, read_fails, say_then, say_fails, think_as, write_then, write_fails, think_then, think_fails, reads_at, writes_at, written, lacks_by, err_is, then_pick, picked, refused, done, then_on, fails, reads_by, writes_by, thinks_by)
 

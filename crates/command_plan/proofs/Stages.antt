@@ -10,10 +10,10 @@ use Rattle.command_plan.specs.declared.fault.Fault.{Fault}
 use Rattle.command_plan.specs.Follows.{Stage, Later, Idle, Rests, EndsHere}
 
 pub later_refl : (a : Stage) → Later a a
-later_refl a = record { files = refl; faults = omega arith; misses = omega arith; out_faults = omega arith }
+later_refl a = record { files = refl; faults = omega arith; misses = omega arith; out_faults = omega arith; board = omega arith }
 
 pub later_trans : (a b c : Stage) → Later a b → Later b c → Later a c
-later_trans a b c p q = record { files = q.files ∙ p.files; faults = omega arith; misses = omega arith; out_faults = omega arith }
+later_trans a b c p q = record { files = q.files ∙ p.files; faults = omega arith; misses = omega arith; out_faults = omega arith; board = omega arith }
 
 pub idle_refl : (a : Stage) → Idle a a
 idle_refl a = record { later = later_refl a; held = Keeps-refl a.out.held }

@@ -7,7 +7,7 @@ use Rattle.apf_base.specs.Streams.{AppendsPart}
 use Rattle.command_plan.specs.declared.fault.Input.{Input}
 use Rattle.command_plan.specs.declared.fault.Refusal.TheVariants as refusals
 use Rattle.command_plan.specs.declared.fault.Fault.{Fault}
-use Rattle.command_plan.specs.declared.fault.Fault.TheVariants.{Usage, Refused, OutOfMemory, Read, Write, Open}
+use Rattle.command_plan.specs.declared.fault.Fault.TheVariants.{Usage, Refused, OutOfMemory, Read, Write, Open, Board}
 use Rattle.command_plan.specs.Files.{FileFails, file_limit}
 use Rattle.command_plan.specs.Plan.{asks, says}
 use Rattle.command_plan.specs.Follows.{Stage, Later, Idle, Follows}
@@ -34,6 +34,7 @@ module _ (input : Input) (path : List ℕ) (a b : Stage) where
   asks_failed (Refused (refusals.TooLarge need limit)) idle how unread unopened = absurd how
   asks_failed Usage idle how unread unopened = absurd how
   asks_failed Write idle how unread unopened = absurd how
+  asks_failed Board idle how unread unopened = absurd how
 
   -- a file was read, or not
   pub asks_by : (result : Result (List ℕ) Fault) → Idle a b

@@ -12,12 +12,12 @@ use Rattle.pcap_files.specs.declared.fault.PcapError.{PcapError}
 use Rattle.command_plan.specs.declared.fault.Input.{Input}
 use Rattle.command_plan.specs.declared.fault.Refusal.TheVariants as refusals
 use Rattle.command_plan.specs.declared.fault.Fault.{Fault}
-use Rattle.command_plan.specs.declared.fault.Fault.TheVariants.{Usage, Refused, OutOfMemory, Read, Write, Open}
+use Rattle.command_plan.specs.declared.fault.Fault.TheVariants.{Usage, Refused, OutOfMemory, Read, Write, Open, Board}
 use Rattle.command_plan.specs.Amounts.{IsBehindHead}
 use Rattle.command_plan.specs.Records.{HasOpened, OpeningFails, HandsOut}
 use Rattle.command_plan.specs.Plan.{Plan, ◌>>=◌, opens, MayTell}
 use Rattle.std.proofs.KnownBytes.{Keeps-refl}
-use Rattle.command_plan.specs.Follows.{Stage, Shelving, Sinking, Later, Idle, Follows, stage}
+use Rattle.command_plan.specs.Follows.{Stage, Shelving, Sinking, Later, Idle, Follows, stage, stage_beside}
 use Rattle.command_plan.specs.Follows as f
 
 -- ---- opening
@@ -62,6 +62,7 @@ module _ {A : Type 0} (input : Input) (path : List ℕ) (next : Told → Plan A)
   opened_fails OutOfMemory a b r is idle how unread unopened go = absurd how
   opened_fails Usage a b r is idle how unread unopened go = absurd how
   opened_fails Write a b r is idle how unread unopened go = absurd how
+  opened_fails Board a b r is idle how unread unopened go = absurd how
 
 -- ---- the records so far
 
@@ -131,8 +132,11 @@ tells_first (Some all) (Some rest) now given so are =
 -- ---- what is seen of a shelf
 
 module _ (a b x y : Shelving) (out : Sinking) (first : a ≡ x) (last : b ≡ y) where
+  pub seen_idle_beside : (board : ℕ) → y.file ≡ x.file → x.faults ≤ y.faults → x.misses ≤ y.misses → Idle (stage_beside a out board) (stage_beside b out board)
+  seen_idle_beside board files faults misses = rw (first, last) (record { later = record { files = files; faults = faults; misses = misses; out_faults = omega arith; board = omega arith }; held = Keeps-refl out.held })
+
   pub seen_idle : y.file ≡ x.file → x.faults ≤ y.faults → x.misses ≤ y.misses → Idle (stage a out) (stage b out)
-  seen_idle files faults misses = rw (first, last) (record { later = record { files = files; faults = faults; misses = misses; out_faults = omega arith }; held = Keeps-refl out.held })
+  seen_idle files faults misses = seen_idle_beside 0 files faults misses
 
   pub seen_rose : Rose x.faults y.faults → Rose a.faults b.faults
   seen_rose rose = rw (first, last) rose

@@ -5,7 +5,7 @@ use Rattle.std.specs.Io.KnownBytes.{Appends, IsAtEnd}
 use Rattle.pcap_files.specs.Stream.{Told}
 use Rattle.command_plan.specs.Amounts.{IsTakenOf, IsBehindHead}
 use Rattle.command_plan.specs.Meaning.{CommandMeaning, nothing, command}
-use Rattle.command_plan.specs.Plan.{Plan, Done, Refuse, Ask, OpenCapture, TakeNext, Pick, Say, MayHold, MayTell}
+use Rattle.command_plan.specs.Plan.{Plan, Done, Refuse, Ask, OpenCapture, TakeNext, Pick, Say, RunLanes, MayHold, MayTell}
 
 -- These lines stand whole, and behind them a part of the text of the next ones, which is not all of it.
 abbrev pub BreaksWithin : Option (List ℕ) → Option (List ℕ) → List (List ℕ) → List (List ℕ) → Type 0
@@ -27,6 +27,7 @@ MayBreak (Pick {X = X} P rest) file left before these now = (x : X) × P x × Ma
 MayBreak (Say lines rest) file left before these now =
     ((before ≡ []) × (these ≡ lines) × (now ≡ left))
     ⊎ ((more : List (List ℕ)) × (before ≡ lines ++ more) × MayBreak rest file left more these now)
+MayBreak (RunLanes rest) file left before these now = MayBreak rest file left before these now
 
 abbrev pub MayBreakBy : CommandMeaning → (List ℕ → Option (List ℕ)) → (left : Option (List ℕ)) → (before these : List (List ℕ)) → (now : Option (List ℕ)) → Type 0
 MayBreakBy nothing file left before these now = ⊥

@@ -6,9 +6,9 @@ use Rattle.apf_base.specs.Streams.{AppendsFront, AppendsAll}
 use Rattle.command_plan.specs.Files.{FileFails, file_limit}
 use Rattle.command_plan.specs.Follows.{Stage}
 use Rattle.pcap_files.specs.Stream.{Told}
-use Rattle.command_plan.specs.Plan.{Plan, Done, Refuse, Ask, OpenCapture, TakeNext, Pick, Say, MayHold, MayTell}
+use Rattle.command_plan.specs.Plan.{Plan, Done, Refuse, Ask, OpenCapture, TakeNext, Pick, Say, RunLanes, MayHold, MayTell}
 use Rattle.command_plan.specs.declared.fault.Fault.{Fault}
-use Rattle.command_plan.specs.declared.fault.Fault.TheVariants.{Usage, Refused, OutOfMemory, Read, Write, Open}
+use Rattle.command_plan.specs.declared.fault.Fault.TheVariants.{Usage, Refused, OutOfMemory, Read, Write, Open, Board}
 
 -- ---- the ends of one node, with nothing more written
 
@@ -34,6 +34,7 @@ MayEnd (Pick {X = X} P rest) file lines end = EndsAs (Err OutOfMemory) lines end
 MayEnd (Say these rest) file lines end =
     (((more : List (List ℕ)) × (these ≡ lines ++ more)) × ((end ≡ Err OutOfMemory) ⊎ (end ≡ Err Write)))
     ⊎ ((more : List (List ℕ)) × (lines ≡ these ++ more) × MayEnd rest file more end)
+MayEnd (RunLanes rest) file lines end = ((lines ≡ []) × ((end ≡ Err OutOfMemory) ⊎ (end ≡ Err Board))) ⊎ MayEnd rest file lines end
 
 -- these lines were written whole, or the first bytes of their text where a write failed
 abbrev pub Leaves : {A : Type 0} → Option (List ℕ) → Option (List ℕ) → List (List ℕ) → Result A Fault → Type 0
@@ -49,9 +50,11 @@ IsOwn (Err OutOfMemory) = ⊥
 IsOwn (Err (Read input)) = ⊥
 IsOwn (Err Write) = ⊥
 IsOwn (Err (Open input)) = ⊥
+IsOwn (Err Board) = ⊥
 
 -- no count rose
 pub record Calm (a b : Stage) : Type 0 where
   pub faults : ¬ Rose a.shelf.faults b.shelf.faults
   pub misses : ¬ Rose a.shelf.misses b.shelf.misses
   pub out_faults : ¬ Rose a.out.faults b.out.faults
+  pub board : ¬ Rose a.board b.board

@@ -8,7 +8,7 @@ use Rattle.pcap_files.specs.Stream.{Told}
 use Rattle.command_plan.specs.Amounts.{Amount, IsTakenOf, IsBehindHead}
 use Rattle.command_plan.specs.Files.{file_limit}
 use Rattle.command_plan.specs.Lines.{AppendsFirst}
-use Rattle.command_plan.specs.Plan.{Plan, Done, Refuse, Ask, OpenCapture, TakeNext, Pick, Say, MayHold, MayTell}
+use Rattle.command_plan.specs.Plan.{Plan, Done, Refuse, Ask, OpenCapture, TakeNext, Pick, Say, RunLanes, MayHold, MayTell}
 use Rattle.command_plan.specs.declared.fault.Input.{Input}
 use Rattle.command_plan.specs.declared.fault.Refusal.TheVariants.{TooLong}
 use Rattle.command_plan.specs.declared.fault.Fault.{Fault}
@@ -28,10 +28,11 @@ pub record Sinking : Type 0 where
   pub held : Option (List ℕ)
   pub faults : ℕ
 
--- of both
+-- of both, and how often a board refused so far: 0 where there is none
 pub record Stage : Type 0 where
   pub shelf : Shelving
   pub out : Sinking
+  pub board : ℕ
 
 abbrev pub shelving : (List ℕ → Option (List ℕ)) → Option (List ℕ) → ℕ → ℕ → Shelving
 shelving file left faults misses = record { file = file; left = left; faults = faults; misses = misses }
@@ -39,8 +40,13 @@ shelving file left faults misses = record { file = file; left = left; faults = f
 abbrev pub sinking : Option (List ℕ) → ℕ → Sinking
 sinking held faults = record { held = held; faults = faults }
 
+-- in a call with a board
+abbrev pub stage_beside : Shelving → Sinking → ℕ → Stage
+stage_beside shelf out board = record { shelf = shelf; out = out; board = board }
+
+-- in a call without one
 abbrev pub stage : Shelving → Sinking → Stage
-stage shelf out = record { shelf = shelf; out = out }
+stage shelf out = stage_beside shelf out 0
 
 -- ---- from one moment to another
 
@@ -50,6 +56,7 @@ pub record Later (a b : Stage) : Type 0 where
   pub faults : a.shelf.faults ≤ b.shelf.faults
   pub misses : a.shelf.misses ≤ b.shelf.misses
   pub out_faults : a.out.faults ≤ b.out.faults
+  pub board : a.board ≤ b.board
 
 -- and nothing was written
 pub record Idle (a b : Stage) : Type 0 where
@@ -111,6 +118,12 @@ module _ {A : Type 0} where
         → AppendsPart a.out.held b.out.held (concat lines) → Says lines Rest a b result
     said : (c : Stage) → Later a c → c.shelf.left ≡ a.shelf.left → AppendsAll a.out.held c.out.held lines → Rest c → Says lines Rest a b result
 
+  -- it was to run lanes on a board; nothing is written meanwhile
+  pub data RunsLanes (Rest : Stage → Type 0) (a b : Stage) (result : Result A Fault) : Type 0 where
+    no_memory : EndsHere (Err faults.OutOfMemory) a b result → RunsLanes Rest a b result
+    refused : EndsHere (Err faults.Board) a b result → Rose a.board b.board → RunsLanes Rest a b result
+    ran : (c : Stage) → Rests a c → Rest c → RunsLanes Rest a b result
+
 -- ---- over a plan
 
 -- A call went from one stage to another by this plan, with this result.
@@ -122,8 +135,10 @@ Follows (OpenCapture input path rest) a b result = Opens input path (λ found c.
 Follows (TakeNext input amount rest) a b result = Takes input amount (λ c. Follows rest c b result) a b result
 Follows (Pick P rest) a b result = Picks P (λ x. Follows (rest x) a b result) a b result
 Follows (Say lines rest) a b result = Says lines (λ c. Follows rest c b result) a b result
+Follows (RunLanes rest) a b result = RunsLanes (λ c. Follows rest c b result) a b result
 
--- a step that reads alone, whatever the sink is; one that writes alone, whatever the shelf is; and one that does neither
+-- A step that reads alone, whatever the sink is; one that writes alone, whatever the shelf is; and one that does neither.
+-- The first two are said where there is no board, and so hold beside each.
 pub record Reads {A : Type 0} (plan : Plan A) (a b : Shelving) (result : Result A Fault) : Type 0 where
   pub at : (out : Sinking) → Follows plan (stage a out) (stage b out) result
 

@@ -24,6 +24,8 @@ pub data Plan (A : Type 0) : Type 1 where
   Pick : {X : Type 0} → (X → Type 0) → (X → Plan A) → Plan A
   -- it writes these lines, each handed to the sink as one piece, so that only a sink that fails can cut one, and goes on
   Say : List (List ℕ) → Plan A → Plan A
+  -- it runs lanes on a board, which may refuse them, and goes on
+  RunLanes : Plan A → Plan A
 
 -- one plan behind another
 infixl 10 ◌>>=◌
@@ -35,6 +37,7 @@ unfoldable pub ◌>>=◌ : {A B : Type 0} → Plan A → (A → Plan B) → Plan
 (TakeNext input amount rest) >>= next = TakeNext input amount (rest >>= next)
 (Pick P rest) >>= next = Pick P (λ x. rest x >>= next)
 (Say lines rest) >>= next = Say lines (rest >>= next)
+(RunLanes rest) >>= next = RunLanes (rest >>= next)
 
 -- ---- the plans of one step
 
@@ -57,6 +60,10 @@ picks P = Pick P Done
 -- these lines, each as one piece
 abbrev pub says : List (List ℕ) → Plan (Unit {0})
 says lines = Say lines (Done tt)
+
+-- lanes on a board
+abbrev pub runs_lanes : Plan (Unit {0})
+runs_lanes = RunLanes (Done tt)
 
 -- there is nothing to go on with
 abbrev pub never : {A : Type 0} → Plan A
@@ -93,6 +100,7 @@ MayFetch may (OpenCapture input path rest) = may path × ((found : Told) → May
 MayFetch may (TakeNext input amount rest) = MayFetch may rest
 MayFetch may (Pick {X = X} P rest) = (x : X) → P x → MayFetch may (rest x)
 MayFetch may (Say lines rest) = MayFetch may rest
+MayFetch may (RunLanes rest) = MayFetch may rest
 
 -- The plan reads a file to its end before it comes to its answer. The test says whether the last one that was opened was
 -- read so before.
@@ -104,6 +112,7 @@ ReadsWhole whole (OpenCapture input path rest) = (found : Told) → ReadsWhole f
 ReadsWhole whole (TakeNext input amount rest) = ReadsWhole (comes_to_end amount) rest
 ReadsWhole whole (Pick {X = X} P rest) = (x : X) → P x → ReadsWhole whole (rest x)
 ReadsWhole whole (Say lines rest) = ReadsWhole whole rest
+ReadsWhole whole (RunLanes rest) = ReadsWhole whole rest
 
 -- ---- plans that read and check everything before they write
 
@@ -117,13 +126,13 @@ abbrev pub MayRefuse : Bool → Refusal → Type 0
 MayRefuse false refusal = ⊤
 MayRefuse true refusal = IsOfCapture refusal
 
--- and no file may be opened
+-- and no file may be opened, nor lanes run
 abbrev pub MayAsk : Bool → Type 0
 MayAsk false = ⊤
 MayAsk true = ⊥
 
--- Behind its lines the plan opens no file, and refuses nothing but a capture. The first test says whether it takes its
--- capture by and by, also between lines; the second one whether lines were said before.
+-- Behind its lines the plan opens no file, runs no lanes, and refuses nothing but a capture. The first test says whether
+-- it takes its capture by and by, also between lines; the second one whether lines were said before.
 unfoldable pub IsQuiet : {A : Type 0} → Bool → Bool → Plan A → Type 0
 IsQuiet by_and_by said (Done x) = ⊤
 IsQuiet by_and_by said (Refuse refusal) = MayRefuse said refusal
@@ -132,3 +141,4 @@ IsQuiet by_and_by said (OpenCapture input path rest) = MayAsk said × ((found : 
 IsQuiet by_and_by said (TakeNext input amount rest) = IsTrue by_and_by × IsQuiet by_and_by said rest
 IsQuiet by_and_by said (Pick {X = X} P rest) = (x : X) → P x → IsQuiet by_and_by said (rest x)
 IsQuiet by_and_by said (Say lines rest) = IsQuiet by_and_by true rest
+IsQuiet by_and_by said (RunLanes rest) = MayAsk said × IsQuiet by_and_by said rest

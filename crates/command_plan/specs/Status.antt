@@ -16,7 +16,7 @@ use Rattle.command_plan.specs.declared.fault.FileKind.TheVariants.{Program}
 use Rattle.command_plan.specs.declared.fault.Refusal.{Refusal}
 use Rattle.command_plan.specs.declared.fault.Refusal.TheVariants.{BadCapture, BadScript, BadText, Twice, Unknown, Backward, TooLong, CodeTooLong, TooLarge}
 use Rattle.command_plan.specs.declared.fault.Fault.{Fault}
-use Rattle.command_plan.specs.declared.fault.Fault.TheVariants.{Usage, Refused, OutOfMemory, Read, Write, Open}
+use Rattle.command_plan.specs.declared.fault.Fault.TheVariants.{Usage, Refused, OutOfMemory, Read, Write, Open, Board}
 
 -- ---- statuses
 
@@ -39,6 +39,7 @@ status_of (Err OutOfMemory) = 70
 status_of (Err (Read input)) = 71
 status_of (Err Write) = 72
 status_of (Err (Open input)) = 73
+status_of (Err Board) = 76
 
 -- ---- the lines
 
@@ -83,6 +84,7 @@ fault_words OutOfMemory = codes "out of memory"
 fault_words (Read input) = codes "read failed"
 fault_words Write = codes "write failed"
 fault_words (Open input) = codes "cannot open "
+fault_words Board = codes "board refused"
 
 -- the kind of a file that is too long, or the name of one that couldn't be opened, which is the word at its place
 abbrev pub fault_name : Fault → List (List ℕ) → List ℕ

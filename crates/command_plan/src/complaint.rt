@@ -83,6 +83,7 @@ fn fault_words(fault: Fault) -> &'static str
         Fault::Read(_) => "read failed",
         Fault::Write => "write failed",
         Fault::Open(_) => "cannot open ",
+        Fault::Board => "board refused",
     }
 }
 

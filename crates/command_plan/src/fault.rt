@@ -92,6 +92,8 @@ pub enum Fault {
     Write,
     /// The file could not be opened.
     Open(Input),
+    /// A board refused a reader place or an entry.
+    Board,
 }
 
 impl From<Refusal> for Fault {
@@ -143,5 +145,6 @@ pub fn status_of(end: Result<(), Fault>) -> u8
         Err(Fault::Read(_)) => 71,
         Err(Fault::Write) => 72,
         Err(Fault::Open(_)) => 73,
+        Err(Fault::Board) => 76,
     }
 }

@@ -3,6 +3,7 @@ pub mod CodesTold
 pub mod Completing
 pub mod Leading
 pub mod Learning
+pub mod Listing
 pub mod Reporting
 pub mod Summing
 pub mod Telling

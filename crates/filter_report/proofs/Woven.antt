@@ -20,14 +20,14 @@ use Rattle.command_plan.proofs.Saying.{all_said}
 use Rattle.command_plan.proofs.Streaming.{GivenSo, given_none, given_more, tells_end, tells_first, taken_bytes}
 use Rattle.command_plan.proofs.Texts.{first_said, part_said}
 use Rattle.command_plan.proofs.Weaving.{WovenSo, woven_none, woven_more, woven_unread, woven_lacks, woven_short, woven_unsaid, woven_refused, woven_whole}
-use Rattle.command_plan.specs.Follows.{Stage, Later, Idle, Follows, Shelving, Sinking, stage, shelving, sinking}
+use Rattle.command_plan.specs.Follows.{Stage, Later, Idle, Follows, Shelving, Sinking, stage, stage_beside, shelving, sinking}
 use Rattle.command_plan.specs.Plan.{MayTell, says}
 use Rattle.command_plan.specs.Records.{HasOpened, HandsOut, NextFails}
 use Rattle.command_plan.specs.Weaving.{Share, weaves_all}
 use Rattle.command_plan.specs.declared.fault.Input.{Input}
 use Rattle.command_plan.specs.declared.fault.Refusal.TheVariants as refusals
 use Rattle.command_plan.specs.declared.fault.Fault.{Fault}
-use Rattle.command_plan.specs.declared.fault.Fault.TheVariants.{Usage, Refused, OutOfMemory, Read, Write, Open}
+use Rattle.command_plan.specs.declared.fault.Fault.TheVariants.{Usage, Refused, OutOfMemory, Read, Write, Open, Board}
 use Rattle.filter_report.proofs.Completing.{records_course, records_frames, records_course-append, records_frames-append, story_grows, replay_codes, handed_have_bytes, records_grow, records_codes, records_lines}
 use Rattle.filter_report.proofs.Leading.{along_tells, leads, leads_tells, leads_report}
 use Rattle.filter_report.specs.Arrivals.{frames_of}
@@ -301,6 +301,7 @@ module _ (input : Input) (script : Script) (line : List ℕ) (bytes : Option (Li
       next_fails (Refused (refusals.TooLarge need limit)) b idle how rose = absurd how
       next_fails Usage b idle how rose = absurd how
       next_fails Write b idle how rose = absurd how
+      next_fails Board b idle how rose = absurd how
       next_fails (Open which) b idle how rose = absurd how
 
       -- ---- within the lines of a record
@@ -359,9 +360,10 @@ stage_at file left faults misses held out_faults shelf out = stage (shelving (fi
 
 -- the sink alone moved on
 pub out_alone : (shelf : Shelving) (a b : Sinking) → a.faults ≤ b.faults → Later (stage shelf a) (stage shelf b)
-out_alone shelf a b faults = record { files = refl; faults = omega arith; misses = omega arith; out_faults = faults }
+out_alone shelf a b faults = record { files = refl; faults = omega arith; misses = omega arith; out_faults = faults; board = omega arith }
 
 -- what is seen is known to be this
 pub goes_seen : (input : Input) (script : Script) (line : List ℕ) (bytes : Option (List ℕ)) (a b : Stage) (shelf shelf_now : Shelving) (out out_now : Sinking) (r : Result (Unit {0}) Fault)
-    → shelf ≡ a.shelf → shelf_now ≡ b.shelf → out ≡ a.out → out_now ≡ b.out → Goes input script line bytes a b r → Goes input script line bytes (stage shelf out) (stage shelf_now out_now) r
+    → shelf ≡ a.shelf → shelf_now ≡ b.shelf → out ≡ a.out → out_now ≡ b.out → Goes input script line bytes a b r
+    → Goes input script line bytes (stage_beside shelf out a.board) (stage_beside shelf_now out_now b.board) r
 goes_seen input script line bytes a b shelf shelf_now out out_now r e e_now k k_now goes = rw (e, e_now, k, k_now) goes

@@ -1,7 +1,10 @@
 pub mod Along
 pub mod Arrivals
 pub mod Faults
+pub mod Lanes
 pub mod Lines
+pub mod Live
 pub mod Report
+pub mod Scripted
 pub mod Streaming
 pub mod Text

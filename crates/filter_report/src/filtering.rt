@@ -54,7 +54,7 @@ impl Model for Filtering {
 }
 
 /// The core at its start.
-fn start_core(alloc: Global, config: Config, now: u32) -> Result<Core, ReportFault>
+pub(crate) fn start_core(alloc: Global, config: Config, now: u32) -> Result<Core, ReportFault>
     ensures along { IfOk result (λ core. IsFirstCore config now core) }
     ensures too_large { (need limit : ℕ) → result ≡ Err (ReportFault.TooLarge need limit) → (limit < need) × (need ≡ base config start) × (limit ≡ limit_of config) }
     ensures fits { limit_of config < base config start → result ≡ Err (ReportFault.TooLarge (base config start) (limit_of config)) }

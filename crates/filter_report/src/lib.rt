@@ -11,6 +11,7 @@ mod frames;
 mod laws;
 mod lines;
 mod replaying;
+mod scripted;
 mod sharing;
 #[cfg(test)]
 mod tests;
@@ -21,4 +22,5 @@ pub use fault::ReportFault;
 pub use filtering::Filtering;
 pub use laws::{gen_lines_have_one_code, reports_have_one_list_of_codes, reports_tell_their_codes};
 pub use replaying::replay;
+pub use scripted::{ScriptTold, take_script};
 pub use sharing::types_are_shared;

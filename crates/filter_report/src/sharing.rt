@@ -1,6 +1,6 @@
 //! The types may be handed to and shared with other threads.
 
-use crate::{Filtering, ReportFault};
+use crate::{Filtering, ReportFault, ScriptTold};
 
 fn is_shared<T: Send + Sync>() {}
 
@@ -8,4 +8,5 @@ fn is_shared<T: Send + Sync>() {}
 pub fn types_are_shared() {
     is_shared::<Filtering>();
     is_shared::<ReportFault>();
+    is_shared::<ScriptTold>();
 }

@@ -25,7 +25,7 @@ returns-in_err-reader g c =
     let last = g.met.H.Files.seen_is c.open_capture.new.shelf in
     let b = stage (g.H.Files.seen c.open_capture.new.shelf) out in
     let next : List ℕ → Told → Plan (Unit {0}) = λ line found. replays (input Capture 2) c.args.script line found in
-    write_then (begins c.args.script) (λ line. opens (input Capture 2) c.args.capture.now >>= next line) begun.0 _ _ _ b _ begun.1
+    write_then (begins c.args.script) (λ line. opens (input Capture 2) c.args.capture.now >>= next line) begun.0 _ _ _ _ b _ begun.1
     (opened_fails (input Capture 2) c.args.capture.now (next begun.0) c.in_err-reader.field-0.0 _ b _ (err_is _ _ c.from_residual-in_err-reader.ensures.1)
     (seen_idle _ _ _ _ out first last e.files e.faults e.misses) (rw first e.err)
     (λ which is. seen_rose _ _ _ _ out first last (e.read which (ap (λ f. Err f) is))) (λ which is. rw (first, last) (e.open which (ap (λ f. Err f) is)))
@@ -42,6 +42,6 @@ returns g c =
     let b = stage (g.H.Files.seen c.replay.new.shelf) (g.O.Lines.seen c.replay.new.out) in
     let next : List ℕ → Told → Plan (Unit {0}) = λ line found. replays (input Capture 2) c.args.script line found in
     let taken = c.replay.ensures c.args.script begun.0 (g.H.Source.file c.args.shelf.now c.args.capture.now) begun.2 e.opened e.bytes in
-    write_then (begins c.args.script) (λ line. opens (input Capture 2) c.args.capture.now >>= next line) begun.0 _ _ _ b _ begun.1
+    write_then (begins c.args.script) (λ line. opens (input Capture 2) c.args.capture.now >>= next line) begun.0 _ _ _ _ b _ begun.1
     (opened_then (input Capture 2) c.args.capture.now (next begun.0) taken.0 c.in_ok-reader.reader _ a b _
     (seen_idle _ _ _ _ out first last e.files e.faults e.misses) (rw (first, last) e.opened) (rw first taken.1) taken.2)

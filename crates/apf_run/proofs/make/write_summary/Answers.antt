@@ -22,7 +22,7 @@ returns-in_err-write_totals g c =
     (g.met.O.Lines.seen_is c.args.out.now) (g.met.O.Lines.seen_is c.write_totals.new.out)
     (record {
       at = λ shelf.
-          rw (p.1, p.2) (totals_fail c.args.n c.in_ok-filtering.filtering _ _ (record { files = refl; faults = omega arith; misses = omega arith; out_faults = e.faults }) c.in_ok-filtering.ensures.ok
+          rw (p.1, p.2) (totals_fail c.args.n c.in_ok-filtering.filtering _ _ (record { files = refl; faults = omega arith; misses = omega arith; out_faults = e.faults; board = omega arith }) c.in_ok-filtering.ensures.ok
           refl _ c.in_err-write_totals.field-0.0 refl e.front e.quiet e.no_limit e.write);
     })
 
@@ -33,5 +33,5 @@ returns g c =
     (g.met.O.Lines.seen_is c.args.out.now) (g.met.O.Lines.seen_is c.write_totals.new.out)
     (record {
       at = λ shelf.
-          totals_done c.args.n c.in_ok-filtering.filtering _ _ (record { files = refl; faults = omega arith; misses = omega arith; out_faults = e.faults }) c.in_ok-filtering.ensures.ok refl e.ok;
+          totals_done c.args.n c.in_ok-filtering.filtering _ _ (record { files = refl; faults = omega arith; misses = omega arith; out_faults = e.faults; board = omega arith }) c.in_ok-filtering.ensures.ok refl e.ok;
     })

@@ -1,4 +1,5 @@
-use Rattle.std.proofs.Common.{◌≡◌, inl, inr, ap, sym, ◌∙◌}
+use Rattle.std.proofs.Common.{◌≡◌, inl, inr, ap, sym, ◌∙◌, arith}
+use Rattle.apf_base.specs.Causes.{Rose}
 use Rattle.command_line.specs.Lines.{texts}
 use Rattle.command_plan.specs.Status.{status_of}
 use Rattle.command_plan.proofs.Breaking.{does_breaks}
@@ -40,9 +41,13 @@ returns-clause-stands g c =
 pub returns-clause-breaks : goal.returns-clause-breaks
 returns-clause-breaks g c = λ is. does_breaks _ _ _ _ c.carry_out-end.ensures (sym (status g c) ∙ is)
 
+-- where there is no board, its count doesn't rise
+none_rose : Rose 0 0 → ⊥
+none_rose rose = omega (arith, rose)
+
 pub returns-clause-complete : goal.returns-clause-complete
 returns-clause-complete g c = λ faults misses out_faults.
-    elim (does_complete _ _ _ _ c.carry_out-end.ensures (record { faults = faults; misses = misses; out_faults = out_faults })) [
+    elim (does_complete _ _ _ _ c.carry_out-end.ensures (record { faults = faults; misses = misses; out_faults = out_faults; board = none_rose })) [
       | inl lacks ↦ inl (status g c ∙ lacks)
       | inr all ↦ inr (c.carry_out-end.result, status g c, all.0, all.1, all.2, all.3)
     ]

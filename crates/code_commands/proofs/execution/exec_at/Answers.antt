@@ -28,7 +28,7 @@ returns-in_err-reader g c =
     let last = g.met.H.Files.seen_is c.open_capture.new.shelf in
     let b = stage (g.H.Files.seen c.open_capture.new.shelf) out in
     let next : Told → Plan (Unit {0}) = λ found. runs_over c.in_ok-code.code found c.args.age in
-    read_then (asks (input Program 1) c.args.program.now) (λ code. opens (input Capture 2) c.args.capture.now >>= λ found. runs_over code found c.args.age) c.in_ok-code.code _ _ out b _ c.in_ok-code.ensures
+    read_then (asks (input Program 1) c.args.program.now) (λ code. opens (input Capture 2) c.args.capture.now >>= λ found. runs_over code found c.args.age) c.in_ok-code.code _ _ out _ b _ c.in_ok-code.ensures
     (opened_fails (input Capture 2) c.args.capture.now next c.in_err-reader.field-0.0 _ b _ (err_is _ _ c.from_residual-in_err-reader.ensures.1)
     (seen_idle _ _ _ _ out first last e.files e.faults e.misses) (rw first e.err)
     (λ which is. seen_rose _ _ _ _ out first last (e.read which (ap (λ f. Err f) is))) (λ which is. rw (first, last) (e.open which (ap (λ f. Err f) is)))
@@ -44,7 +44,7 @@ returns g c =
     let b = stage (g.H.Files.seen c.run_over.new.shelf) (g.O.Lines.seen c.run_over.new.out) in
     let next : Told → Plan (Unit {0}) = λ found. runs_over c.in_ok-code.code found c.args.age in
     let ran = c.run_over.ensures (g.H.Source.file c.ask.new.self c.args.capture.now) e.opened e.bytes in
-    read_then (asks (input Program 1) c.args.program.now) (λ code. opens (input Capture 2) c.args.capture.now >>= λ found. runs_over code found c.args.age) c.in_ok-code.code _ _ out b _ c.in_ok-code.ensures
+    read_then (asks (input Program 1) c.args.program.now) (λ code. opens (input Capture 2) c.args.capture.now >>= λ found. runs_over code found c.args.age) c.in_ok-code.code _ _ out _ b _ c.in_ok-code.ensures
     (opened_then (input Capture 2) c.args.capture.now next ran.0 c.in_ok-reader.reader _ a b _
     (seen_idle _ _ _ _ out first last e.files e.faults e.misses) (rw (first, last) e.opened) (rw first ran.1)
     (subst (λ (program : List ℕ). Follows (runs_over program ran.0 c.args.age) a b c.run_over.result) c.as_slice.ensures ran.2))

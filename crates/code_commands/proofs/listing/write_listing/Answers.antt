@@ -14,5 +14,5 @@ returns g c =
     record {
       at = λ shelf.
           then_pick (IsListing c.args.program.now) (λ entries. says (map line_text entries)) (map entry_of lines) _ _ _ listed
-          (written _ _ _ _ shelf c.write_lines.result c.write_lines.ensures (sym (map-map line_text entry_of lines)));
+          (written _ _ _ _ shelf _ c.write_lines.result c.write_lines.ensures (sym (map-map line_text entry_of lines)));
     }
