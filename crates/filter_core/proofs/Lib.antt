@@ -6,6 +6,7 @@ pub mod Fitting
 pub mod Growing
 pub mod LeastHold
 pub mod Numbering
+pub mod Rising
 pub mod SoundBases
 pub mod Standing
 pub mod TakenFrames

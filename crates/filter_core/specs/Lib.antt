@@ -1,6 +1,7 @@
 pub mod Calls
 pub mod Coded
 pub mod Installs
+pub mod Lanes
 pub mod Records
 pub mod Replay
 pub mod Standing

@@ -8,10 +8,11 @@ use Rattle.policy_state.specs.declared.basis.UpdateReply.{UpdateReply}
 use Rattle.policy_state.specs.declared.basis.UpdateReply.TheVariants as updates
 use Rattle.filter_core.proofs.Answering.{meaning}
 use Rattle.filter_core.proofs.Growing.{installs-append}
+use Rattle.filter_core.proofs.Rising.{rises_snoc}
 use Rattle.filter_core.specs.Calls.{Renews, update_installs}
 use Rattle.filter_core.specs.Coded.{plain}
 use Rattle.filter_core.specs.Installs.{Installed, install_of}
-use Rattle.filter_report.specs.Lanes.{RisesFrom, codes_of}
+use Rattle.filter_core.specs.Lanes.{RisesFrom, codes_of}
 use Rattle.filter_core.specs.Replay.{Course, Entry, install, reply, tells, update_entries, after_event, begun, installs_of}
 use Rattle.filter_core.specs.Standing.{Standing, filter_of}
 use Rattle.filter_core.specs.Steps.{Filter, first, updated}
@@ -29,10 +30,6 @@ on_ok_both (Ok x) both p q = both p q
 on_ok_both (Err e) both p q = tt
 
 -- ---- lists of installs
-
-pub rises-snoc : (n : ℕ) (is : List Install) (i : Install) → RisesFrom n is → i.number ≡ n + length is → RisesFrom n (is ++ i ∷ [])
-rises-snoc n [] i h e = (omega (arith, e), tt)
-rises-snoc n (x ∷ is) i h e = (h.0, rises-snoc (n + 1) is i h.1 (omega (arith, e)))
 
 codes-snoc : (is : List Install) (i : Install) → codes_of (is ++ i ∷ []) ≡ codes_of is ++ i.code ∷ []
 codes-snoc is i = map-append (λ (j : Install). j.code) is (i ∷ [])
@@ -77,7 +74,7 @@ module _ (c : Course) (core new : Standing) (installs : List Install) (lines : L
       let place : i.number ≡ length (codes_of installs) = omega (arith, next, a.count, length-codes installs) in
       subst (λ (g : Filter). HasListed (tells c g (install g.install ∷ [])) new (installs ++ i ∷ []) (lines ++ line i.code ∷ [])) is (record {
         are = map-append plain installs (i ∷ []) ∙ ap (λ (l : List Installed). l ++ plain i ∷ []) a.are ∙ sym all;
-        numbers = rises-snoc 0 installs i a.numbers (omega (arith, next, a.count));
+        numbers = rises_snoc 0 installs i a.numbers (omega (arith, next, a.count));
         count = omega (arith, next, a.count, length-append installs (i ∷ []));
         at = refl;
         telling = λ more steps.

@@ -1,7 +1,6 @@
 pub mod Along
 pub mod Arrivals
 pub mod Faults
-pub mod Lanes
 pub mod Lines
 pub mod Live
 pub mod Report

@@ -6,7 +6,7 @@ use Rattle.policy_state.specs.declared.basis.Answer.{Answer}
 use Rattle.policy_state.specs.declared.basis.Script.{Script}
 use Rattle.filter_core.specs.declared.install.Install.{Install}
 use Rattle.filter_core.specs.Coded.{plain}
-use Rattle.filter_report.specs.Lanes.{LanesRun, codes_of}
+use Rattle.filter_core.specs.Lanes.{LanesRun, codes_of}
 use Rattle.filter_core.specs.Replay.{Arrival, Entry, installs_of, passes}
 use Rattle.script_text.specs.Report.{frame_line}
 use Rattle.filter_report.specs.Report.{AllFit}

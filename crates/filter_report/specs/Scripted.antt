@@ -3,7 +3,7 @@ use Rattle.std.specs.Prelude.{◌≡◌, ℕ, ◌+◌, ◌<◌, List, [], ◌++�
 use Rattle.policy_state.specs.declared.basis.Script.{Script}
 use Rattle.filter_core.specs.declared.install.Install.{Install}
 use Rattle.filter_core.specs.Coded.{plain}
-use Rattle.filter_report.specs.Lanes.{RisesFrom, codes_of}
+use Rattle.filter_core.specs.Lanes.{RisesFrom, codes_of}
 use Rattle.filter_core.specs.Replay.{Course, Entry, begun, finished, installs_of}
 use Rattle.filter_core.specs.Standing.{Standing, filter_of}
 use Rattle.filter_report.specs.Report.{AllFit}

@@ -3,7 +3,8 @@ use Rattle.std.proofs.Common.{◌≡◌, ℕ, ◌+◌, ◌≤◌, List, [], ◌�
 use mathlib.Core.List.{IsPrefix}
 use Rattle.filter_core.specs.declared.install.Install.{Install}
 use Rattle.policy_state.specs.declared.basis.Answer.{Answer}
-use Rattle.program_swap.specs.Histories.{RisesFrom, RisesByOne, HasLast}
+use Rattle.filter_core.specs.Lanes.{RisesFrom}
+use Rattle.program_swap.specs.Histories.{RisesByOne, HasLast}
 use Rattle.program_swap.specs.Order.{HasInstall, AllHaveInstalls, NoneBelow, NeverFalls, KeepsOrder}
 use Rattle.program_swap.proofs.Rising.{rises_end}
 

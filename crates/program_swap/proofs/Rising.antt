@@ -2,7 +2,9 @@
 use Rattle.std.proofs.Common.{◌≡◌, ℕ, ◌+◌, ◌<◌, ◌≤◌, List, [], ◌∷◌, ◌++◌, length, refl, sym, ap, subst, ◌∙◌, arith, length-append}
 use mathlib.Core.List.{IsPrefix}
 use Rattle.filter_core.specs.declared.install.Install.{Install}
-use Rattle.program_swap.specs.Histories.{RisesFrom, RisesByOne, HasLast}
+use Rattle.filter_core.proofs.Rising.{rises_snoc}
+use Rattle.filter_core.specs.Lanes.{RisesFrom}
+use Rattle.program_swap.specs.Histories.{RisesByOne, HasLast}
 
 pub ends_some : (log : List Install) → 0 < length log → (i : Install) × HasLast log i
 ends_some [] h = absurd (omega arith)
@@ -14,10 +16,6 @@ ends_some (x ∷ y ∷ log) h =
 pub rises_end : (n : ℕ) (before : List Install) (i : Install) → RisesFrom n (before ++ i ∷ []) → i.number ≡ n + length before
 rises_end n [] i h = omega (arith, h.0)
 rises_end n (x ∷ before) i h = let r = rises_end (n + 1) before i h.1 in omega (arith, r)
-
-pub rises_snoc : (n : ℕ) (log : List Install) (next : Install) → RisesFrom n log → next.number ≡ n + length log → RisesFrom n (log ++ next ∷ [])
-rises_snoc n [] next h e = (omega (arith, e), tt)
-rises_snoc n (x ∷ log) next h e = (h.0, rises_snoc (n + 1) log next h.1 (omega (arith, e)))
 
 -- the next install of a list that rises has the number that its last install says
 pub next_number : (n : ℕ) (log : List Install) (next : Install) → RisesFrom n log → 0 < length log → ((last : Install) → HasLast log last → next.number ≡ last.number + 1) → next.number ≡ n + length log

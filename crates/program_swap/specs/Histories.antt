@@ -1,12 +1,8 @@
 -- Lists of installs whose numbers rise by one.
-use Rattle.std.specs.Prelude.{◌≡◌, ℕ, ◌+◌, Bool, true, List, [], ◌∷◌, ◌++◌}
+use Rattle.std.specs.Prelude.{◌≡◌, ℕ, Bool, true, List, [], ◌∷◌, ◌++◌}
 use Rattle.logbook.specs.Pages.{Book}
+use Rattle.filter_core.specs.Lanes.{RisesFrom}
 use Rattle.filter_core.specs.declared.install.Install.{Install}
-
--- the numbers rise by one, from this on
-abbrev pub RisesFrom : ℕ → List Install → Type 0
-RisesFrom n [] = Unit {0}
-RisesFrom n (i ∷ is) = (i.number ≡ n) × RisesFrom (n + 1) is
 
 -- the numbers rise by one
 abbrev pub RisesByOne : List Install → Type 0
