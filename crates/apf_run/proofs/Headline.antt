@@ -2,7 +2,7 @@
 use Rattle.std.proofs.Common.{◌≡◌, inl, inr, ℕ, List, [], ◌∷◌, codes, Option, None, Some, IfSome, Result, Ok, Err, refl, sym, ap, subst, ◌∙◌}
 use Rattle.apf_base.specs.Streams.{AppendsAll}
 use Rattle.filter_core.specs.Replay.{Arrival}
-use Rattle.filter_report.specs.Arrivals.{arrivals_of}
+use Rattle.filter_core.specs.Arrivals.{arrivals_of}
 use Rattle.filter_report.specs.Report.{IsReport}
 use Rattle.pcap_files.specs.Capture.{capture}
 use Rattle.pcap_files.specs.declared.fault.PcapError.{PcapError}

@@ -21,7 +21,7 @@ use Rattle.script_text.specs.declared.script_error.ScriptError.TheVariants.{Bad}
 use Rattle.script_text.specs.declared.script_error.ScriptKind.{ScriptKind}
 use Rattle.filter_core.specs.Replay.{Course, after_arrival, begun, course, finished, totals}
 use Rattle.filter_report.specs.Along.{Reporting, InCourse}
-use Rattle.filter_report.specs.Arrivals.{arrivals_of}
+use Rattle.filter_core.specs.Arrivals.{arrivals_of}
 use Rattle.filter_report.specs.Lines.{Adds}
 use Rattle.filter_report.specs.Text.{entry_lines}
 use Rattle.filter_report.specs.declared.fault.ReportFault.{ReportFault}

@@ -4,7 +4,7 @@ use Rattle.apf_base.specs.Streams.{AppendsAll}
 use Rattle.policy_state.specs.declared.basis.Script.{Script}
 use Rattle.script_text.specs.Scripts.{IsScriptText}
 use Rattle.pcap_files.specs.Capture.{capture}
-use Rattle.filter_report.specs.Arrivals.{arrivals_of}
+use Rattle.filter_core.specs.Arrivals.{arrivals_of}
 use Rattle.filter_report.specs.Report.{IsReport}
 
 -- THE HEADLINE: of a text and a capture, the report of the script that the text is the text of was written, and nothing

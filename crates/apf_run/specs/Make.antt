@@ -7,7 +7,7 @@ use Rattle.pcap_files.specs.Writing.{head_bytes}
 use Rattle.script_text.specs.Scripts.{IsScriptText}
 use Rattle.filter_core.specs.Replay.{Arrival, begun, course, finished, totals}
 use Rattle.filter_report.specs.Along.{Reporting, InCourse}
-use Rattle.filter_report.specs.Arrivals.{arrivals_of}
+use Rattle.filter_core.specs.Arrivals.{arrivals_of}
 use Rattle.filter_report.specs.Text.{entry_lines}
 use Rattle.made_input.specs.MadeCaptures.{made_capture, made_kind, made_record}
 use Rattle.made_input.specs.MadeScripts.{ended, made_lines, made_script}

@@ -20,7 +20,7 @@ use Rattle.filter_core.specs.Installs.{Installed}
 use Rattle.filter_core.specs.Replay.{Entry, Arrival, install, reply, answer, learnt, counted, total, installs_of, replay, story, AreByLast}
 use Rattle.policy_state.specs.declared.basis.Script.{Script}
 use Rattle.filter_report.proofs.Telling.{length-AllFit}
-use Rattle.filter_report.specs.Arrivals.{frames_of}
+use Rattle.filter_core.specs.Arrivals.{frames_of}
 use Rattle.filter_report.specs.Report.{AllFit, Tells, IsReport, IsStory}
 use Rattle.filter_report.specs.Text.{entry_lines}
 

@@ -18,7 +18,7 @@ use Rattle.filter_core.proofs.SoundBases.{HasSoundBasis, HasRoom, IsFitting, beg
 use Rattle.filter_core.specs.Installs.{Installed}
 use Rattle.filter_core.specs.Replay.{Arrival, Course, Entry, begun, after_arrival, course, installs_of, replay, story}
 use Rattle.filter_report.proofs.Leading.{arrivals_room, leads_grown, leads_told, leads_story, leads_report}
-use Rattle.filter_report.specs.Arrivals.{frames_of}
+use Rattle.filter_core.specs.Arrivals.{frames_of}
 use Rattle.filter_report.specs.Report.{AllHaveCodes, Leads}
 use Rattle.filter_report.specs.Streaming.{TellsAll, arrival_told, arrivals_told}
 

@@ -17,7 +17,7 @@ use Rattle.filter_core.specs.Replay.{Arrival, Course, Entry, after_event, after_
 use Rattle.filter_core.proofs.DueEvents.{fold_one, fold_rest}
 use Rattle.filter_report.proofs.Telling.{lines-append, answers-append, AllFit-append, steps-append}
 use Rattle.filter_report.specs.Along.{Along}
-use Rattle.filter_report.specs.Arrivals.{arrival_of, arrivals_of, frames_of}
+use Rattle.filter_core.specs.Arrivals.{arrival_of, arrivals_of, frames_of}
 use Rattle.filter_report.specs.Report.{AllHaveCodes, AllFit, steps_from, Tells, IsReport, IsStory, ended, Leads}
 use Rattle.filter_report.specs.Text.{entry_lines}
 

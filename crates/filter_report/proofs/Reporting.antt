@@ -5,7 +5,7 @@ use Rattle.std.proofs.lemmas.List.{append-nil, map-append}
 use Rattle.std.proofs.lemmas.List.Sums.{fold-append}
 use Rattle.pcap_files.specs.Capture.{frame_of}
 use Rattle.pcap_files.specs.declared.kinds.Placed.{Placed}
-use Rattle.filter_report.specs.Arrivals.{arrival_of, arrivals_of}
+use Rattle.filter_core.specs.Arrivals.{arrival_of, arrivals_of}
 use Rattle.policy_state.specs.declared.basis.Script.{Script}
 use Rattle.policy_state.specs.declared.basis.Timed.{Timed}
 use Rattle.policy_state.specs.declared.basis.UpdateReply.{UpdateReply}

@@ -30,7 +30,7 @@ use Rattle.command_plan.specs.declared.fault.Fault.{Fault}
 use Rattle.command_plan.specs.declared.fault.Fault.TheVariants.{Usage, Refused, OutOfMemory, Read, Write, Open, Board}
 use Rattle.filter_report.proofs.Completing.{records_course, records_frames, records_course-append, records_frames-append, story_grows, replay_codes, handed_have_bytes, records_grow, records_codes, records_lines}
 use Rattle.filter_report.proofs.Leading.{along_tells, leads, leads_tells, leads_report}
-use Rattle.filter_report.specs.Arrivals.{frames_of}
+use Rattle.filter_core.specs.Arrivals.{frames_of}
 use Rattle.filter_report.specs.Along.{Along, Reporting, InCourse}
 use Rattle.filter_report.specs.Faults.{command_fault}
 use Rattle.filter_report.specs.Lines.{Adds, BreaksOff}

@@ -1,5 +1,4 @@
 pub mod Along
-pub mod Arrivals
 pub mod Faults
 pub mod Lines
 pub mod Live

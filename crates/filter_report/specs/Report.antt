@@ -12,7 +12,7 @@ use Rattle.filter_core.specs.Installs.{Installed}
 use Rattle.filter_core.specs.Steps.{Answered}
 use Rattle.filter_core.specs.Tally.{raises, memory_of}
 use Rattle.filter_core.specs.Replay.{Arrival, Course, Entry, answers_of, installs_of, finished, totals, replay, story}
-use Rattle.filter_report.specs.Arrivals.{frames_of}
+use Rattle.filter_core.specs.Arrivals.{frames_of}
 use Rattle.filter_report.specs.Text.{entry_lines}
 
 -- A program for the basis has room.

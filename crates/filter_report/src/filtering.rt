@@ -10,7 +10,7 @@ ghost use Rattle.pcap_files.specs.Capture.{frame_of, IsWithin};
 ghost use Rattle.policy_state.specs.States.{start};
 ghost use Rattle.size_fit.specs.Sizes.{base, limit_of};
 ghost use Rattle.filter_report.specs.Along.{InCourse, IsFirstCore};
-ghost use Rattle.filter_report.specs.Arrivals.{arrivals_of};
+ghost use Rattle.filter_core.specs.Arrivals.{arrivals_of};
 ghost use Rattle.filter_report.specs.Lines.{Adds, BreaksOff};
 ghost use Rattle.filter_report.specs.Text.{with_one, entry_lines};
 ghost use Rattle.filter_report.specs.Report.{Leads, Tells, ended};

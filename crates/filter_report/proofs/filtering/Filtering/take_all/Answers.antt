@@ -8,7 +8,7 @@ use Rattle.filter_report.proofs.Adding.{adds_adds, adds_breaks, adds_later, adds
 use Rattle.filter_report.proofs.Leading.{along_fits, leads_records}
 use Rattle.filter_report.proofs.Reporting.{records_one, no_record}
 use Rattle.filter_report.specs.Along.{InCourse}
-use Rattle.filter_report.specs.Arrivals.{arrival_of, arrivals_of}
+use Rattle.filter_core.specs.Arrivals.{arrival_of, arrivals_of}
 use Rattle.filter_report.specs.Lines.{Adds, BreaksOff}
 use Rattle.filter_report.specs.Report.{Leads}
 use Rattle.filter_report.proofs.filtering.Filtering.take_all.Goals as goal

@@ -2,7 +2,7 @@ use Rattle.std.proofs.Common.{◌≡◌, ◌≤◌, ◌+◌, ◌++◌, List, ℕ
 use Rattle.filter_core.specs.Replay.{Course, after_arrival}
 use Rattle.pcap_files.specs.Capture.{frame_of}
 use Rattle.filter_report.specs.Along.{InCourse}
-use Rattle.filter_report.specs.Arrivals.{arrivals_of}
+use Rattle.filter_core.specs.Arrivals.{arrivals_of}
 use Rattle.filter_report.specs.Lines.{Adds}
 use Rattle.filter_report.proofs.filtering.Filtering.take_all.Given as goal
 
