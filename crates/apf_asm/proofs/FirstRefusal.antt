@@ -7,7 +7,7 @@ use Rattle.apf_asm.specs.declared.item.Item.{Item}
 use Rattle.apf_asm.specs.declared.item.AsmError.{AsmError}
 use Rattle.apf_asm.specs.Refusals.{first, refused_from, refused_at, refusal, IsFirstRefusal}
 use Rattle.apf_asm.proofs.Here.{item_there}
-use Rattle.apf_asm.proofs.Aims.{refused_more, refused_goes_on, refused_ends, refused_all}
+use Rattle.apf_asm.proofs.Refusing.{refused_more, refused_goes_on, refused_ends, refused_all}
 
 abbrev NoneBefore : List Item → ℕ → Type 0
 NoneBefore xs i = (k : ℕ) (y : Item) → k < i → slice_get xs k ≡ Some y → refused_at xs k y ≡ None

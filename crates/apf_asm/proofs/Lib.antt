@@ -1,4 +1,3 @@
-pub mod Aims
 pub mod Answering
 pub mod Emitted
 pub mod FirstRefusal
@@ -9,6 +8,7 @@ pub mod Law
 pub mod Lengths
 pub mod Narrowing
 pub mod Parts
+pub mod Refusing
 pub mod Rules
 pub mod Settled
 pub mod Spaced

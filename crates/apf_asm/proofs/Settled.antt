@@ -1,7 +1,7 @@
 -- Items whose jumps lead on, and whose labels stand once, are refused for no label.
 use Rattle.std.proofs.Common.{ap, ◌∙◌, ◌≡◌, ℕ, ◌+◌, ◌<◌, Bool, true, false, cond, eqb, List, [], ◌∷◌, ◌++◌, Option, Some, None, refl, sym, subst, ◌∙◌, inl, inr}
 use Rattle.std.specs.Prelude.{◌||◌}
-use Rattle.std.proofs.lemmas.Bool.{false≢true, eqb-true, eq-eqb}
+use Rattle.std.proofs.lemmas.Bool.{false≢true, eqb-true, eqb-false, eq-eqb}
 use Rattle.apf_asm.specs.declared.item.Item.{Item}
 use Rattle.apf_asm.specs.declared.item.Item.TheVariants as items
 use Rattle.apf_asm.specs.declared.item.Target.{Target}
@@ -10,17 +10,13 @@ use Rattle.apf_asm.specs.declared.item.AsmError.{AsmError}
 use Rattle.apf_asm.specs.Items.{marks}
 use Rattle.apf_asm.specs.Refusals.{stands, target_refused, refused, first, refused_from}
 use Rattle.apf_asm.specs.Fragment.{Lands, LandsOf, IsApart, labels}
+use Rattle.apf_asm.proofs.Law.{Leads}
 use Rattle.apf_asm.proofs.Forms.{AllSound, stands-more, stands-later}
 use Rattle.apf_asm.proofs.Rules.{stands-both}
 
 -- ---- labels
 
 -- each jump goes to an end, or to a label that stands behind it
-abbrev pub Leads : List Item → Target → Type 0
-Leads rest (targets.Label l) = stands l rest ≡ true
-Leads rest targets.Pass = Unit {0}
-Leads rest targets.Drop = Unit {0}
-
 abbrev pub LeadsOf : List Item → Item → Type 0
 LeadsOf rest (items.Jump j) = Leads rest j.to
 LeadsOf rest (items.Fixed f) = Unit {0}
@@ -55,6 +51,19 @@ apart-away l (items.Label k ∷ xs) h = go (eqb k l) refl (apart-away l xs h.1)
 apart-away l (items.Fixed f ∷ xs) h = apart-away l xs h
 apart-away l (items.Jump j ∷ xs) h = apart-away l xs h
 apart-away l (items.Byte b ∷ xs) h = apart-away l xs h
+
+-- and one that doesn't stand among them stands apart
+pub away-apart : (l : ℕ) (xs : List Item) → stands l xs ≡ false → IsApart l (labels xs)
+unfolding labels stands
+away-apart l [] h = tt
+away-apart l (items.Label k ∷ xs) h = go (eqb k l) refl h (away-apart l xs)
+  where
+    go : (t : Bool) → eqb k l ≡ t → t || stands l xs ≡ false → (stands l xs ≡ false → IsApart l (labels xs)) → (k ≡ l → ⊥) × IsApart l (labels xs)
+    go true e away later = absurd (false≢true (sym away))
+    go false e away later = (eqb-false k l e, later away)
+away-apart l (items.Fixed f ∷ xs) h = away-apart l xs h
+away-apart l (items.Jump j ∷ xs) h = away-apart l xs h
+away-apart l (items.Byte b ∷ xs) h = away-apart l xs h
 
 label_ok : (b : Bool) (e : AsmError) → b ≡ false → cond b (Some e) None ≡ None
 label_ok true e h = absurd (false≢true (sym h))

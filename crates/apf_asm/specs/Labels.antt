@@ -1,5 +1,5 @@
--- Where labels stand, and to which items jumps go, by the numbers of items.
-use Rattle.std.specs.Prelude.{ℕ, suc, ◌+◌, nat_lt, if◌then◌else◌, List, [], ◌∷◌, length, slice_get, Option, Some, None, Result, Ok, Err}
+-- Where labels stand, by the numbers of items.
+use Rattle.std.specs.Prelude.{ℕ, suc, nat_lt, if◌then◌else◌, List, [], ◌∷◌, slice_get, Option, Some, None}
 use Rattle.std.specs.Ordering.{nat_cmp}
 use Rattle.std.specs.BTreeMap as tree
 use Rattle.apf_asm.specs.declared.item.Item.{Item}
@@ -28,43 +28,27 @@ found_in None far = far
 abbrev pub found : List (Option ℕ) → tree.BTreeMap ℕ ℕ → ℕ → Option ℕ
 found near far label = found_in (slice_get near label) (tree.get nat_cmp far label)
 
--- ---- the item to which an item goes
+-- what is found once the item, if it is a label, has this number
+abbrev pub noted : Item → ℕ → (ℕ → Option ℕ) → ℕ → Option ℕ
+noted item number found label = if marks label item then Some number else found label
 
--- which of the items behind it a jump goes to; both ends have the number behind the last
-abbrev pub target_index : List Item → Target → ℕ
-target_index rest (targets.Label l) = label_at l rest
-target_index rest targets.Pass = length rest
-target_index rest targets.Drop = length rest
+-- ---- what is wrong with an item, by what is found of the first items that are labels
 
--- an item that is no jump has the number behind the last too, so that each has a target whose distance to the end is known
-abbrev pub item_index : List Item → Item → ℕ
-item_index rest (items.Jump j) = target_index rest j.to
-item_index rest (items.Fixed f) = length rest
-item_index rest (items.Label l) = length rest
-item_index rest (items.Byte b) = length rest
+abbrev pub label_refused : ℕ → ℕ → Option ℕ → Option AsmError
+label_refused number label (Some place) = if nat_lt place number then Some (Twice number label) else None
+label_refused number label None = None
 
--- for each item that number, where the first of the items has this one
-unfoldable pub aims_from : ℕ → List Item → List ℕ
-aims_from number [] = []
-aims_from number (item ∷ rest) = (number + 1 + item_index rest item) ∷ aims_from (number + 1) rest
+abbrev pub jump_refused : ℕ → ℕ → Option ℕ → Option AsmError
+jump_refused number label (Some place) = if nat_lt place number then Some (Backward number label) else None
+jump_refused number label None = Some (Unknown number label)
 
--- ---- the same, by what is found of labels
+abbrev pub to_refused : (ℕ → Option ℕ) → ℕ → Target → Option AsmError
+to_refused found number (targets.Label l) = jump_refused number l (found l)
+to_refused found number targets.Pass = None
+to_refused found number targets.Drop = None
 
-abbrev pub label_aim : ℕ → ℕ → ℕ → Option ℕ → Result ℕ AsmError
-label_aim number label end (Some place) = if nat_lt place number then Err (Twice number label) else Ok end
-label_aim number label end None = Ok end
-
-abbrev pub jump_aim : ℕ → ℕ → Option ℕ → Result ℕ AsmError
-jump_aim number label (Some place) = if nat_lt place number then Err (Backward number label) else Ok place
-jump_aim number label None = Err (Unknown number label)
-
-abbrev pub target_aim : (ℕ → Option ℕ) → ℕ → ℕ → Target → Result ℕ AsmError
-target_aim found number end (targets.Label l) = jump_aim number l (found l)
-target_aim found number end targets.Pass = Ok end
-target_aim found number end targets.Drop = Ok end
-
-abbrev pub item_aim : (ℕ → Option ℕ) → ℕ → ℕ → Item → Result ℕ AsmError
-item_aim found number end (items.Label l) = label_aim number l end (found l)
-item_aim found number end (items.Jump j) = target_aim found number end j.to
-item_aim found number end (items.Fixed f) = Ok end
-item_aim found number end (items.Byte b) = Ok end
+abbrev pub item_refused : (ℕ → Option ℕ) → ℕ → Item → Option AsmError
+item_refused found number (items.Label l) = label_refused number l (found l)
+item_refused found number (items.Jump j) = to_refused found number j.to
+item_refused found number (items.Fixed f) = None
+item_refused found number (items.Byte b) = None

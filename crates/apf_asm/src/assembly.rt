@@ -10,12 +10,12 @@ ghost use Rattle.apf_base.specs.Limits.{program_limit};
 
 use crate::emitting::{Code, emit, emit_bytes};
 use crate::item::{AsmError, Item};
-use crate::labels::find_aims;
+use crate::labels::first_refusal;
 use crate::spacing::{Spacing, space};
 use apf_base::{List, PROGRAM_LIMIT};
 use std::alloc::Global;
 
-/// The spacing of items that are refused for no cause.
+/// The spacing of items, or why they are refused.
 fn lay_out(alloc: Global, items: &[Item]) -> Result<Spacing, AsmError>
     requires few { length items.now ≤ item_limit }
     requires forms { All IsItemForm items.now }
@@ -26,8 +26,9 @@ fn lay_out(alloc: Global, items: &[Item]) -> Result<Spacing, AsmError>
     ensures ok { OnOk result (answer items.now ≡ None) }
     ensures err { IfErr result (λ e. (e ≡ AsmError.OutOfMemory) ⊎ (answer items.now ≡ Some e)) }
 {
-    let aims = find_aims(alloc, items)?;
-    let spacing = space(alloc, items, &aims)?;
+    let Some(spacing) = space(alloc, items)? else {
+        return Err(first_refusal(alloc, items));
+    };
     if spacing.bytes > PROGRAM_LIMIT as u64 {
         return Err(AsmError::TooLong {
             bytes: spacing.bytes,

@@ -1,8 +1,8 @@
-//! Labels, and the items to which jumps go.
+//! Labels, and what is wrong with items for them.
 
-ghost use Rattle.std.specs.Prelude.{◌≡◌, ◌≢◌, ◌≤◌, ◌<◌, ℕ, length, None, Some, IfOk, IfErr, OnOk, ◌⊎◌};
+ghost use Rattle.std.specs.Prelude.{◌≡◌, ◌≢◌, ◌≤◌, ◌<◌, ℕ, length, None, Some, IfOk, OnOk, ◌⊎◌};
 ghost use Rattle.apf_asm.specs.Refusals.{refusal};
-ghost use Rattle.apf_asm.specs.Labels.{found, label_found, label_aim, jump_aim, item_aim, aims_from};
+ghost use Rattle.apf_asm.specs.Labels.{found, noted, label_found, label_refused, jump_refused, item_refused};
 ghost use Rattle.apf_asm.specs.Items.{item_limit};
 
 use crate::item::{AsmError, Item, Target};
@@ -10,17 +10,17 @@ use apf_base::OutOfMemory;
 use std::alloc::Global;
 use std::collections::BTreeMap;
 
-/// Numbers of items by label. Labels below the number of items, as code generators draw them, stand in an array, others
+/// A number for each label that has one. Labels below the number of items, as code generators draw them, stand in an array, others
 /// in a tree, so that no choice of labels makes assembling slow.
 #[derive(Drop)]
-struct Labels {
-    near: Vec<Option<usize>>,
-    far: BTreeMap<u32, usize>,
+pub(crate) struct Labels {
+    pub(crate) near: Vec<Option<u64>>,
+    pub(crate) far: BTreeMap<u32, u64>,
 }
 
 impl Labels {
     /// No label has a number yet. Those below `near` will stand in the array.
-    fn new(alloc: Global, near: usize) -> Result<Labels, OutOfMemory>
+    pub(crate) fn new(alloc: Global, near: usize) -> Result<Labels, OutOfMemory>
         ensures { IfOk result (λ labels. (l : ℕ) → found labels.near.items labels.far l ≡ None) }
     {
         Ok(Labels {
@@ -30,7 +30,7 @@ impl Labels {
     }
 
     /// The number of a label, if it has one.
-    fn get(&self, label: u32) -> Option<usize>
+    pub(crate) fn get(&self, label: u32) -> Option<u64>
         ensures { result ≡ found self.now.near.items self.now.far label }
     {
         match self.near.get(label as usize) {
@@ -40,7 +40,7 @@ impl Labels {
     }
 
     /// Gives a label a number.
-    fn insert(&mut self, label: u32, number: usize) -> Result<(), OutOfMemory>
+    fn insert(&mut self, label: u32, number: u64) -> Result<(), OutOfMemory>
         ensures label { OnOk result (found self.new.near.items self.new.far label ≡ Some number) }
         ensures others { OnOk result ((l : ℕ) → l ≢ label → found self.new.near.items self.new.far l ≡ found self.old.near.items self.old.far l) }
     {
@@ -52,6 +52,16 @@ impl Labels {
         }
         Ok(())
     }
+
+    /// Gives an item's label a number, where the item is one.
+    pub(crate) fn note(&mut self, item: &Item, number: u64) -> Result<(), OutOfMemory>
+        ensures { OnOk result ((l : ℕ) → found self.new.near.items self.new.far l ≡ noted item.now number (found self.old.near.items self.old.far) l) }
+    {
+        match item {
+            Item::Label(label) => self.insert(*label, number),
+            Item::Fixed(_) | Item::Jump(_) | Item::Byte(_) => Ok(()),
+        }
+    }
 }
 
 /// For each label the number of the first item that is it.
@@ -62,68 +72,68 @@ fn first_labels(alloc: Global, items: &[Item]) -> Result<Labels, OutOfMemory>
     for (number, item) in items.iter().enumerate() {
         if let Item::Label(label) = item {
             if first.get(*label).is_none() {
-                first.insert(*label, number)?;
+                first.insert(*label, number as u64)?;
             }
         }
     }
     Ok(first)
 }
 
-/// A label goes nowhere, and stands for the first time.
-fn label_aim(first: &Labels, number: usize, label: u32, end: usize) -> Result<usize, AsmError>
+/// What is wrong with a label: that it stands before, too.
+fn label_refused(first: &Labels, number: usize, label: u32) -> Option<AsmError>
     requires { number < item_limit }
-    ensures { result ≡ label_aim number label end (found first.now.near.items first.now.far label) }
+    ensures { result ≡ label_refused number label (found first.now.near.items first.now.far label) }
 {
     match first.get(label) {
-        Some(place) if place < number => Err(AsmError::Twice {
+        Some(place) if place < number as u64 => Some(AsmError::Twice {
             item: number as u32,
             label,
         }),
-        _ => Ok(end),
+        _ => None,
     }
 }
 
-/// A jump goes to a label that stands behind it.
-fn jump_aim(first: &Labels, number: usize, label: u32) -> Result<usize, AsmError>
+/// What is wrong with a jump: that its label stands nowhere, or before it.
+fn jump_refused(first: &Labels, number: usize, label: u32) -> Option<AsmError>
     requires { number < item_limit }
-    ensures { result ≡ jump_aim number label (found first.now.near.items first.now.far label) }
+    ensures { result ≡ jump_refused number label (found first.now.near.items first.now.far label) }
 {
     let item = number as u32;
     match first.get(label) {
-        None => Err(AsmError::Unknown { item, label }),
-        Some(place) if place < number => Err(AsmError::Backward { item, label }),
-        Some(place) => Ok(place),
+        None => Some(AsmError::Unknown { item, label }),
+        Some(place) if place < number as u64 => Some(AsmError::Backward { item, label }),
+        Some(_) => None,
     }
 }
 
-/// The number of the item to which an item goes, or what is wrong with it. Where it goes nowhere that is the number
-/// behind the last.
-fn item_aim(first: &Labels, number: usize, item: &Item, end: usize) -> Result<usize, AsmError>
+/// What is wrong with an item.
+fn item_refused(first: &Labels, number: usize, item: &Item) -> Option<AsmError>
     requires { number < item_limit }
-    ensures { result ≡ item_aim (found first.now.near.items first.now.far) number end item.now }
+    ensures { result ≡ item_refused (found first.now.near.items first.now.far) number item.now }
 {
     match item {
-        Item::Label(label) => label_aim(first, number, *label, end),
+        Item::Label(label) => label_refused(first, number, *label),
         Item::Jump(jump) => match jump.to {
-            Target::Label(label) => jump_aim(first, number, label),
-            Target::Pass | Target::Drop => Ok(end),
+            Target::Label(label) => jump_refused(first, number, label),
+            Target::Pass | Target::Drop => None,
         },
-        Item::Fixed(_) | Item::Byte(_) => Ok(end),
+        Item::Fixed(_) | Item::Byte(_) => None,
     }
 }
 
-/// For each item the number of the item to which it goes, or what is wrong with the first that is refused.
-pub(crate) fn find_aims(alloc: Global, items: &[Item]) -> Result<Vec<usize>, AsmError>
-    requires { length items.now ≤ item_limit }
-    ensures ok { OnOk result (refusal items.now ≡ None) }
-    ensures aims { IfOk result (λ aims. aims.items ≡ aims_from 0 items.now) }
-    ensures err { IfErr result (λ e. (e ≡ AsmError.OutOfMemory) ⊎ (refusal items.now ≡ Some e)) }
+/// What is wrong with the first item that is refused. One is.
+pub(crate) fn first_refusal(alloc: Global, items: &[Item]) -> AsmError
+    requires few { length items.now ≤ item_limit }
+    requires refused { refusal items.now ≢ None }
+    ensures { (result ≡ AsmError.OutOfMemory) ⊎ (refusal items.now ≡ Some result) }
 {
-    let first = first_labels(alloc, items)?;
-    let mut aims = Vec::with_capacity(alloc, items.len())?;
+    let Ok(first) = first_labels(alloc, items) else {
+        return AsmError::OutOfMemory;
+    };
     for (number, item) in items.iter().enumerate() {
-        let aim = item_aim(&first, number, item, items.len())?;
-        aims.push(aim)?;
+        if let Some(error) = item_refused(&first, number, item) {
+            return error;
+        }
     }
-    Ok(aims)
+    unreachable!()
 }

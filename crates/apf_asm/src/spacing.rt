@@ -1,14 +1,15 @@
 //! The widths and offsets of jumps.
 
-ghost use Rattle.std.specs.Prelude.{◌≡◌, ◌^◌, ◌<◌, ◌≤◌, length, All, IfOk, None};
+ghost use Rattle.std.specs.Prelude.{◌≡◌, ◌≢◌, ◌^◌, ◌<◌, ◌≤◌, length, All, IfOk, IfSome, None, Ok};
 ghost use Rattle.apf_asm.specs.Items.{IsItemForm, IsJumpForm, item_limit};
 ghost use Rattle.apf_coding.specs.Widths.{least_unsigned};
 ghost use Rattle.apf_asm.specs.Layout.{beside, width_for, item_width, item_widths, item_offsets};
-ghost use Rattle.apf_asm.specs.Labels.{aims_from};
+ghost use Rattle.apf_asm.specs.Labels.{found};
 ghost use Rattle.apf_asm.specs.Refusals.{refusal};
-ghost use Rattle.apf_asm.specs.Spacing.{code_length, apart};
+ghost use Rattle.apf_asm.specs.Spacing.{code_length, apart, item_far};
 
 use crate::item::{Item, Jump, Target};
+use crate::labels::Labels;
 use crate::sizes::size;
 use apf_base::OutOfMemory;
 use apf_coding::{Op, least_unsigned};
@@ -75,32 +76,54 @@ fn item_offset(item: &Item, here: u64, there: u64) -> u64
     }
 }
 
-/// The one layout of items that are refused for no cause, from the last item to the first.
-pub(crate) fn space(alloc: Global, items: &[Item], aims: &[usize]) -> Result<Spacing, OutOfMemory>
+/// How far the end is from an item's target, and 0 where it has none. None says that the item is refused: a jump whose
+/// label stands nowhere behind it, or a label that stands behind it again.
+fn item_far(behind: &Labels, item: &Item) -> Option<u64>
+    ensures { result ≡ item_far (found behind.now.near.items behind.now.far) item.now }
+{
+    match item {
+        Item::Jump(jump) => match jump.to {
+            Target::Label(label) => behind.get(label),
+            Target::Pass | Target::Drop => Some(0),
+        },
+        Item::Label(label) => match behind.get(*label) {
+            Some(_) => None,
+            None => Some(0),
+        },
+        Item::Fixed(_) | Item::Byte(_) => Some(0),
+    }
+}
+
+/// The one layout of items, from the last item to the first. None says that one is refused for its label.
+pub(crate) fn space(alloc: Global, items: &[Item]) -> Result<Option<Spacing>, OutOfMemory>
     requires forms { All IsItemForm items.now }
     requires few { length items.now ≤ item_limit }
-    requires labels { refusal items.now ≡ None }
-    requires aims { aims.now ≡ aims_from 0 items.now }
-    ensures widths { IfOk result (λ spacing. spacing.widths.items ≡ item_widths items.now) }
-    ensures offsets { IfOk result (λ spacing. spacing.offsets.items ≡ item_offsets items.now) }
-    ensures bytes { IfOk result (λ spacing. spacing.bytes ≡ code_length items.now) }
+    ensures refused { result ≡ Ok None → refusal items.now ≢ None }
+    ensures labels { IfOk result (λ found. IfSome found (λ spacing. refusal items.now ≡ None)) }
+    ensures widths { IfOk result (λ found. IfSome found (λ spacing. spacing.widths.items ≡ item_widths items.now)) }
+    ensures offsets { IfOk result (λ found. IfSome found (λ spacing. spacing.offsets.items ≡ item_offsets items.now)) }
+    ensures bytes { IfOk result (λ found. IfSome found (λ spacing. spacing.bytes ≡ code_length items.now)) }
 {
     let mut widths = vec![in alloc; 0; items.len()]?;
     let mut offsets = vec![in alloc; 0; items.len()]?;
-    // How far the end is from each item, and from behind the last.
-    let mut distances = vec![in alloc; 0; items.len() + 1]?;
+    // How far the end is from each label behind the item, and from the place behind it.
+    let mut behind = Labels::new(alloc, items.len())?;
+    let mut here = 0;
     for number in (0..items.len()).rev() {
         let item = &items[number];
-        let here = distances[number + 1];
-        let offset = item_offset(item, here, distances[aims[number]]);
+        let Some(there) = item_far(&behind, item) else {
+            return Ok(None);
+        };
+        let offset = item_offset(item, here, there);
         let width = item_width(item, offset);
         offsets[number] = offset;
         widths[number] = width;
-        distances[number] = here + size(item, width);
+        behind.note(item, here)?;
+        here += size(item, width);
     }
-    Ok(Spacing {
+    Ok(Some(Spacing {
         widths,
         offsets,
-        bytes: distances[0],
-    })
+        bytes: here,
+    }))
 }
