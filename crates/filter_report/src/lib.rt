@@ -24,3 +24,4 @@ pub use laws::{gen_lines_have_one_code, reports_have_one_list_of_codes, reports_
 pub use replaying::replay;
 pub use scripted::{ScriptTold, take_script};
 pub use sharing::types_are_shared;
+pub use totals::last_lines;

@@ -27,8 +27,9 @@ fn add_counter(
     lines.push(line)
 }
 
-/// The lines of the counters that aren't 0, and the line of the totals.
-pub(crate) fn last_lines(
+/// The last lines of a report: those of the counters that aren't 0, by their numbers, and the line of the totals, which
+/// are the frames, how many of them passed, and the installs. It fails only where memory ends.
+pub fn last_lines(
     alloc: Global,
     memory: &[u8; MEMORY_SIZE],
     frames: u64,
