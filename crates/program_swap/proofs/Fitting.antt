@@ -57,3 +57,12 @@ fits_next v w last xs a p r e is h =
 
 pub fits_grow : (v w : List Install) (xs : List Answer) → IsPrefix v w → KeepsOrder v xs → KeepsOrder w xs
 fits_grow v w xs p h = (named_grow v w xs p h.0, h.1)
+
+-- in a rising list the number after its install is one more
+pub next-rises : (n : ℕ) (before later : List Install) (last next : Install) → RisesFrom n (before ++ next ∷ later) → HasLast before last → next.number ≡ last.number + 1
+next-rises n before later last next h end =
+    let here : next.number ≡ n + length before = rises_at n before later next h in
+    let long : length before ≡ length end.0 + 1 = ap length end.1 ∙ length-append end.0 (last ∷ []) in
+    let whole : before ++ next ∷ later ≡ end.0 ++ last ∷ next ∷ later = ap (λ (is : List Install). is ++ next ∷ later) end.1 ∙ append_assoc end.0 (last ∷ []) (next ∷ later) in
+    let there : last.number ≡ n + length end.0 = rises_at n end.0 (next ∷ later) last (subst (RisesFrom n) whole h) in
+    omega (arith, here, there, long)

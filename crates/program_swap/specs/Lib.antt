@@ -4,3 +4,5 @@ pub mod Board
 pub mod Order
 pub mod Turn
 pub mod Lanes
+pub mod Driving
+pub mod Again

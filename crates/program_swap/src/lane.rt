@@ -223,6 +223,7 @@ impl LaneEnd {
     pub(crate) fn keeps_order(&self)
         ensures rising { RisesByOne self.now.view }
         ensures order { KeepsOrder self.now.view self.now.answers }
+        ensures count { self.now.entered ≡ length self.now.answers }
     {
         let _entered = self.entered;
     }

@@ -4,10 +4,13 @@
 //! only goes on, and reaches each token that it learnt. A refused install leaves the published one.
 #![tactic(auto)]
 
+mod again;
 mod board;
+mod ending;
 mod gate;
 mod history;
 mod installer;
+mod installing;
 mod lane;
 mod laws;
 mod place;
@@ -17,8 +20,11 @@ mod shown;
 #[cfg(test)]
 mod tests;
 mod turn;
+mod working;
 
+pub use again::{ShareAnswers, share_again, shares_again};
 pub use board::{Board, BoardError};
+pub use ending::{DriveError, answer_all};
 pub use gate::{Gate, NoGate};
 pub use installer::{Installer, Refused, Token};
 pub use lane::{Lane, LaneEnd, LearnError, NotEntered};
