@@ -64,14 +64,14 @@ one_line script lines t = (_, t.telling)
 
 -- ---- the room
 
-fitting : (script : Script) → base script.config start ≤ limit_of script.config → script_refusal script ≡ None
+pub fitting : (script : Script) → base script.config start ≤ limit_of script.config → script_refusal script ≡ None
 fitting script fits = by_test (ltb (limit_of script.config) (base script.config start)) (le-ltb _ _ fits)
   where
     by_test : (t : Bool) → t ≡ false → cond t (Some (TooLarge (base script.config start) (limit_of script.config))) None ≡ None
     by_test true e = absurd cc
     by_test false e = refl
 
-too_large : (script : Script) → limit_of script.config < base script.config start → script_refusal script ≡ Some (TooLarge (base script.config start) (limit_of script.config))
+pub too_large : (script : Script) → limit_of script.config < base script.config start → script_refusal script ≡ Some (TooLarge (base script.config start) (limit_of script.config))
 too_large script lt = by_test (ltb (limit_of script.config) (base script.config start)) (lt-ltb _ _ lt)
   where
     by_test : (t : Bool) → t ≡ true

@@ -17,19 +17,19 @@ use script_text::{ScriptError, read_script};
 use std::alloc::Global;
 
 /// The file of a script.
-const SCRIPT: Input = Input {
+pub(crate) const SCRIPT: Input = Input {
     kind: FileKind::Script,
     word: 1,
 };
 
 /// The file of a capture.
-const CAPTURE: Input = Input {
+pub(crate) const CAPTURE: Input = Input {
     kind: FileKind::Capture,
     word: 2,
 };
 
 // The script of a text.
-fn script_of(alloc: Global, text: &[u8]) -> Result<Script, Fault>
+pub(crate) fn script_of(alloc: Global, text: &[u8]) -> Result<Script, Fault>
     requires { length text.now ≤ script_limit }
     ensures script { Thinks (reads_script text.now) result }
     ensures sound { IfOk result IsScript }

@@ -1,4 +1,5 @@
-//! Reports of `filter`, row by row. In a wanted line S, C and T stand for a size, a code and a number of steps.
+//! Reports of `filter`, row by row. In a wanted line S, C, T and N stand for a size, a code, a number of steps and the number
+//! of an install.
 
 use crate::running::{calls, list_of, status, words_of};
 use apf_base::{List, MemShelf, MemSink, fill};
@@ -29,7 +30,7 @@ const ADVERTISEMENT: [u8; 142] = [
 /// A frame: zeros; the advertisement from fe80:: and this byte, with its router lifetime or without; or the advertisement
 /// cut or filled up with zeros to so many bytes, with the type and the length of its first option.
 #[derive(Clone, Copy)]
-enum Sent {
+pub enum Sent {
     Zeros,
     Router(u8),
     Leaving(u8),
@@ -57,24 +58,25 @@ const EVENTS: &str =
 /// many bytes the capture lacks at its end, the calls that fail (0 for none), and what is wanted. The wanted lines stand in
 /// the report in this order, it has so many lines, and so many bytes are left of the file that was opened last.
 #[derive(Clone, Copy)]
-struct Row {
-    name: &'static str,
-    script: &'static str,
-    events: &'static str,
-    comment: usize,
-    frames: &'static [(u32, Sent)],
-    cut: usize,
-    fetch: u64,
-    read: u64,
-    write: u64,
-    status: u8,
-    lines: &'static [&'static str],
-    count: usize,
-    left: usize,
-    err: &'static str,
+pub struct Row {
+    pub name: &'static str,
+    pub script: &'static str,
+    pub events: &'static str,
+    pub comment: usize,
+    pub frames: &'static [(u32, Sent)],
+    pub cut: usize,
+    pub fetch: u64,
+    pub read: u64,
+    pub write: u64,
+    pub status: u8,
+    pub lines: &'static [&'static str],
+    pub count: usize,
+    pub left: usize,
+    pub err: &'static str,
 }
 
-const EMPTY: Row = Row {
+/// A capture without frames.
+pub const EMPTY: Row = Row {
     name: "empty capture",
     script: SCRIPT,
     events: "",
@@ -396,10 +398,10 @@ fn capture_of(rt: &impl Abort, alloc: Global, row: &Row) -> Result<List<u8>, Fai
     Ok(capture)
 }
 
-// S, C and T stand for any word.
+// S, C, T and N stand for any word.
 fn is_wanted(word: &[u8], wanted: &[u8]) -> bool {
     match wanted {
-        [b'S' | b'C' | b'T'] => true,
+        [b'S' | b'C' | b'T' | b'N'] => true,
         _ => word == wanted,
     }
 }
@@ -417,8 +419,8 @@ fn is_line(line: &[u8], wanted: &str) -> bool {
     words.next().is_none()
 }
 
-// The wanted lines stand in the report in their order.
-fn check_lines(rt: &impl Abort, row: &Row, report: &[u8]) {
+/// The wanted lines stand in the report in their order.
+pub fn check_lines(rt: &impl Abort, row: &Row, report: &[u8]) {
     let name = row.name;
     let mut left = row.lines.iter();
     let mut wanted = left.next();
@@ -432,7 +434,8 @@ fn check_lines(rt: &impl Abort, row: &Row, report: &[u8]) {
     assert_eq!(rt; count, row.count, "{name}");
 }
 
-fn shelf_of(rt: &impl Abort, alloc: Global, row: &Row) -> Result<MemShelf, Fail> {
+/// The files of a row: its script is `s`, and its capture `c`.
+pub fn shelf_of(rt: &impl Abort, alloc: Global, row: &Row) -> Result<MemShelf, Fail> {
     let comment = vec![in alloc; b'#'; row.comment]?;
     let mut script = list_of(alloc, row.script.as_bytes())?;
     script.extend(row.events.as_bytes())?;
