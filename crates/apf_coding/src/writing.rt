@@ -28,6 +28,7 @@ fn append_number(out: &mut List<u8>, width: u8, n: u32) -> Result<(), OutOfMemor
 }
 
 /// The byte with the opcode, the size field and the register bit.
+#[inline(always)]
 fn first_byte(i: &Instr<'_>) -> u8
     requires { IsWellFormed (view i.now) }
     ensures { result ≡ first_byte (view i.now) }
@@ -37,6 +38,7 @@ fn first_byte(i: &Instr<'_>) -> u8
 }
 
 /// Appends the second immediate, where there is one.
+#[inline(always)]
 fn append_second(out: &mut List<u8>, i: &Instr<'_>) -> Result<(), OutOfMemory>
     requires { IsWellFormed (view i.now) }
     ensures ok { OnOk result (out.new ≡ out.old ++ second_of (view i.now)) }
@@ -49,6 +51,7 @@ fn append_second(out: &mut List<u8>, i: &Instr<'_>) -> Result<(), OutOfMemory>
 }
 
 /// Appends the count and the bytes, where there are such.
+#[inline(always)]
 fn append_counted(out: &mut List<u8>, i: &Instr<'_>) -> Result<(), OutOfMemory>
     requires { IsWellFormed (view i.now) }
     ensures ok { OnOk result (out.new ≡ out.old ++ counted_of (view i.now)) }
