@@ -795,7 +795,7 @@ static void move_clock(struct filter *f, uint32_t now) {
 }
 
 static uint32_t base(const struct config *c, const struct state *s) {
-    return 512 + 9 * c->denied + 80 * keepalive_count(s);
+    return 600 + 9 * c->denied + 80 * keepalive_count(s);
 }
 
 static void drop_expired(struct filter *f) {

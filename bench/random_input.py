@@ -62,7 +62,7 @@ class Case:
     def script(self):
         """The text of a script, as docs/SCRIPT.md has it. For each first program its device has room."""
         denied = self.random.sample(DENIED, self.random.choice([0, 0, 0, 1, 2]))
-        least = 128 + 512 + 9 * len(denied)
+        least = 128 + 600 + 9 * len(denied)
         capacity = self.random.choice([least, least + 79, least + 80, least + 300, 1024, 2048, 8192])
         lines = [
             "apf 1",

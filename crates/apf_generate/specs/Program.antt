@@ -11,7 +11,7 @@ use Rattle.apf_coding.specs.Said.{Said}
 use Rattle.policy_state.specs.Rulings.{said_of}
 use Rattle.apf_generate.specs.Listing.{between_ends}
 use Rattle.apf_generate.specs.Sizes.{weights}
-use Rattle.policy_state.specs.Rooms.{ip6_room}
+use Rattle.policy_state.specs.Rooms.{arp_room, ip4_room, ip6_room, last_room, link_room}
 use Rattle.policy_state.specs.Weights.{denied_weight, keepalive_weight}
 
 -- what the policy says of a frame of more than 14 bytes
@@ -32,9 +32,9 @@ pub record AddsIp6 (basis : Basis) (from to : ℕ) (old new : List Item) : Type 
   pub part : IsPart (λ age frame. said_of (ip6 basis age frame)) from to (ip6_room + weights basis.chosen) question
   pub few : to ≤ from + 65 + 64 * length basis.chosen
 
--- The most bytes of the items that answer the questions. The opening and the two ends have 28 more.
+-- The most bytes of the items that answer the questions. The opening and the two ends have `ends_room` more.
 abbrev pub most_asked : Basis → ℕ
-most_asked basis = 484 + denied_weight * length basis.config.deny + keepalive_weight * count_by is_some basis.state.keepalives + weights basis.chosen
+most_asked basis = link_room + arp_room + ip4_room + ip6_room + last_room + denied_weight * length basis.config.deny + keepalive_weight * count_by is_some basis.state.keepalives + weights basis.chosen
 
 -- items that answer all questions, with their labels from 2 on
 pub record HoldsQuestions (basis : Basis) (xs : List Item) : Type 0 where

@@ -87,7 +87,7 @@ fn programs_decide_as_the_policy(rt: HostRuntime) -> Result<(), Fail> {
         chosen: List::new(rt.alloc()),
     };
     let code = generate(rt.alloc(), &basis)?;
-    assert!(rt; code.len() <= 512);
+    assert!(rt; code.len() <= 600);
 
     let other_host = arp_with(1, [0xc0, 0xa8, 1, 9], 6);
     let no_host = arp_with(2, [0; 4], 5);

@@ -43,8 +43,8 @@ const SCRIPT: &str =
 const SCRIPT_512: &str =
     "apf 1\nmac 02:00:00:00:00:01\ncapacity 512\nstart 1000\ndrop802 on\ndeny none\n";
 
-const SCRIPT_700: &str =
-    "apf 1\nmac 02:00:00:00:00:01\ncapacity 700\nstart 1000\ndrop802 on\ndeny none\n";
+const SCRIPT_800: &str =
+    "apf 1\nmac 02:00:00:00:00:01\ncapacity 800\nstart 1000\ndrop802 on\ndeny none\n";
 
 const SCRIPT_2048: &str =
     "apf 1\nmac 02:00:00:00:00:01\ncapacity 2048\nstart 1000\ndrop802 on\ndeny none\n";
@@ -178,7 +178,7 @@ fn rows() -> [Row; 19] {
             ],
             lines: &[
                 "ra 10 new 10",
-                "gen 10 at 1000 size S left 6,7,8,9,10 code C",
+                "gen 10 at 1000 size S left 5,6,7,8,9,10 code C",
                 "ra 11 full",
                 "total frames 11 passed 11 dropped 0 programs 11",
             ],
@@ -221,16 +221,16 @@ fn rows() -> [Row; 19] {
             name: "a first program that doesn't fit",
             script: SCRIPT_512,
             status: 69,
-            err: "apf_run: too large: need 512 limit 384\n",
+            err: "apf_run: too large: need 600 limit 384\n",
             ..REFUSED
         },
         Row {
             name: "a later one that doesn't",
-            script: SCRIPT_700,
+            script: SCRIPT_800,
             events: KEEPALIVE,
             lines: &[
                 "gen 0 at 1000 size S left none code C",
-                "kept at 1001 need 592 limit 572",
+                "kept at 1001 need 680 limit 672",
                 "total frames 0 passed 0 dropped 0 programs 1",
             ],
             count: 3,

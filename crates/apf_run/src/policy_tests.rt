@@ -176,7 +176,7 @@ fn programs_decide_as_the_policy(rt: HostRuntime) -> Result<(), Fail> {
 fn a_printed_program_drops_arp_for_another_host(rt: HostRuntime) -> Result<(), Fail> {
     let code = printed_program(rt.alloc(), "192.168.1.5/24", "m")?;
     let mut frame = bytes_of(rt.alloc(), FRAMES[4])?;
-    assert!(rt; code.len() <= 512 && frame.len() == 42);
+    assert!(rt; code.len() <= 600 && frame.len() == 42);
     frame[41] = 6;
     let outcome = interpret(&code, &mut [0; 128], &frame, 0);
     assert_eq!(rt; outcome.verdict, Verdict::Drop);

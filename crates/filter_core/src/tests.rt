@@ -180,13 +180,13 @@ fn ten_records_are_held(rt: HostRuntime) -> Result<(), Fail> {
             (1000, 2, 1800, passes(0, RaReply::New(2), 2, 0)),
             (1000, 3, 1800, passes(0, RaReply::New(3), 3, 0)),
             (1000, 4, 1800, passes(0, RaReply::New(4), 4, 0)),
-            (1000, 5, 1800, passes(0, RaReply::New(5), 5, 0)),
-            (1000, 6, 1800, passes(0, RaReply::New(6), 6, 1)),
-            (1000, 7, 1800, passes(0, RaReply::New(7), 7, 2)),
-            (1000, 8, 1800, passes(0, RaReply::New(8), 8, 3)),
-            (1000, 9, 1800, passes(0, RaReply::New(9), 9, 4)),
-            (1000, 10, 1800, passes(0, RaReply::New(10), 10, 5)),
-            (1000, 11, 1800, passes(0, RaReply::Full, 10, 5)),
+            (1000, 5, 1800, passes(0, RaReply::New(5), 5, 1)),
+            (1000, 6, 1800, passes(0, RaReply::New(6), 6, 2)),
+            (1000, 7, 1800, passes(0, RaReply::New(7), 7, 3)),
+            (1000, 8, 1800, passes(0, RaReply::New(8), 8, 4)),
+            (1000, 9, 1800, passes(0, RaReply::New(9), 9, 5)),
+            (1000, 10, 1800, passes(0, RaReply::New(10), 10, 6)),
+            (1000, 11, 1800, passes(0, RaReply::Full, 10, 6)),
         ],
     )
 }
@@ -204,11 +204,11 @@ fn updates_are_answered(rt: HostRuntime) -> Result<(), Fail> {
     };
     for (capacity, update, reply, number) in [
         (
-            700u32,
+            800u32,
             ADD,
             UpdateReply::NotInstalled {
-                need: 592,
-                limit: 572,
+                need: 680,
+                limit: 672,
             },
             0u64,
         ),
@@ -244,7 +244,7 @@ fn updates_are_answered(rt: HostRuntime) -> Result<(), Fail> {
     assert_eq!(rt;
         refused,
         Some(StartError::TooLarge {
-            need: 512,
+            need: 600,
             limit: 384
         })
     );

@@ -190,7 +190,7 @@ fn add_ip4(
 
 /// Appends the question on IPv4 (RFC 791). It draws at most eleven labels.
 ///
-/// The fragment's instructions have at most 160 bytes, and 80 for each keepalive. After an error nothing has changed.
+/// The fragment's instructions have at most 248 bytes, and 80 for each keepalive. After an error nothing has changed.
 pub fn emit_ip4(
     alloc: Global,
     basis: &Basis,

@@ -14,7 +14,7 @@ arp_room = 112
 
 -- the rules of IPv4, but for the keepalives
 abbrev pub ip4_room : ℕ
-ip4_room = 160
+ip4_room = 248
 
 -- the rules of IPv6 that read its header, and with them all but the records
 abbrev pub ip6_header_room : ℕ

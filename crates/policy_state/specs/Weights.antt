@@ -3,7 +3,7 @@ use Rattle.std.specs.Prelude.{ℕ}
 
 -- the base of each program, and what each denied ethertype and each keepalive add to it
 abbrev pub base_weight : ℕ
-base_weight = 512
+base_weight = 600
 
 abbrev pub denied_weight : ℕ
 denied_weight = 9

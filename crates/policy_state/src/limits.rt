@@ -19,7 +19,7 @@ pub const DENIED_MOST: usize = 32;
 pub const RECORDS_MOST: usize = 10;
 
 /// The bytes of the base of each program.
-pub const BASE_WEIGHT: u32 = 512;
+pub const BASE_WEIGHT: u32 = 600;
 
 /// The bytes that each denied ethertype adds to the base.
 pub const DENIED_WEIGHT: u32 = 9;

@@ -11,7 +11,7 @@ use policy_state::{
 };
 use ra_records::{Record, Span};
 
-/// The bytes that a program needs without records: 512, and 9 for each denied ethertype and 80 for each keepalive.
+/// The bytes that a program needs without records: 600, and 9 for each denied ethertype and 80 for each keepalive.
 pub fn base(config: &Config, s: &FilterState) -> u32
     ensures value { result ≡ base config.now s.now }
     ensures most { result ≤ 1440 }

@@ -60,34 +60,34 @@ fn records_are_chosen(rt: HostRuntime) -> Result<(), Fail> {
         (
             384u32,
             Err(TooLarge {
-                need: 512,
+                need: 600,
                 limit: 384,
             }),
         ),
         (
-            511,
+            599,
             Err(TooLarge {
-                need: 512,
-                limit: 511,
+                need: 600,
+                limit: 599,
             }),
         ),
-        (512, Ok(Fit { kept: 0, need: 512 })),
-        (663, Ok(Fit { kept: 0, need: 512 })),
-        (664, Ok(Fit { kept: 1, need: 664 })),
-        (935, Ok(Fit { kept: 1, need: 664 })),
-        (936, Ok(Fit { kept: 2, need: 936 })),
+        (600, Ok(Fit { kept: 0, need: 600 })),
+        (751, Ok(Fit { kept: 0, need: 600 })),
+        (752, Ok(Fit { kept: 1, need: 752 })),
+        (1023, Ok(Fit { kept: 1, need: 752 })),
+        (1024, Ok(Fit { kept: 2, need: 1024 })),
         (
-            1088,
+            1176,
             Ok(Fit {
                 kept: 3,
-                need: 1088,
+                need: 1176,
             }),
         ),
         (
             u32::MAX,
             Ok(Fit {
                 kept: 3,
-                need: 1088,
+                need: 1176,
             }),
         ),
     ] {
@@ -102,7 +102,7 @@ fn records_are_chosen(rt: HostRuntime) -> Result<(), Fail> {
 
 #[test]
 fn bases_are_summed(rt: HostRuntime) -> Result<(), Fail> {
-    for (denied, kept, want) in [(0u16, 0usize, 512), (1, 0, 521), (0, 1, 592), (32, 8, 1440)] {
+    for (denied, kept, want) in [(0u16, 0usize, 600), (1, 0, 609), (0, 1, 680), (32, 8, 1528)] {
         let mut deny = List::new(rt.alloc());
         for ethertype in 0..denied {
             deny.push(ethertype)?;

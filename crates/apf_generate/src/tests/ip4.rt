@@ -302,11 +302,11 @@ fn are_answered(code: &[u8], basis: &Basis, row: &Row) -> bool
     true
 }
 
-/// Whether a row holds. A program has at most 512 bytes, and 80 for each keepalive.
+/// Whether a row holds. A program has at most 600 bytes, and 80 for each keepalive.
 fn holds(alloc: Global, row: &Row) -> Result<bool, Fail> {
     let basis = basis_at(alloc, row.0, slots_with(row.1));
     let code = generate(alloc, &basis)?;
-    let short = code.len() <= 512 + 80 * row.1.len().min(8);
+    let short = code.len() <= 600 + 80 * row.1.len().min(8);
     Ok(short && code.len() <= 65535 && are_answered(code.as_slice(), &basis, row))
 }
 

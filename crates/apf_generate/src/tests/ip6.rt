@@ -140,7 +140,7 @@ fn holds(alloc: Global, row: &Row) -> Result<bool, Fail> {
     for setting in row.3 {
         let basis = basis_at(alloc, *setting);
         let code = generate(alloc, &basis)?;
-        if code.len() > 512 || !are_answered(code.as_slice(), &basis, row) {
+        if code.len() > 600 || !are_answered(code.as_slice(), &basis, row) {
             return Ok(false);
         }
     }
