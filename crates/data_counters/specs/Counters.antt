@@ -2,7 +2,7 @@
 use Rattle.std.specs.Prelude.{ℕ, ◌==◌, List, [], ◌∷◌, length, Option, codes}
 use Rattle.std.specs.List.{find}
 use Rattle.data_counters.specs.declared.counter.Counter.{Counter}
-use Rattle.data_counters.specs.declared.counter.Counter.TheVariants.{TotalPackets, PassedArp, PassedArpNonIpv4, PassedArpUnknown, PassedArpUnicastReply, PassedDhcp, PassedIpv4, PassedIpv4Unicast, PassedIpv6NonIcmp, PassedIpv6UnicastNonIcmp, PassedIpv6Icmp, PassedNonIpUnicast, Dropped8023Frame, DroppedEthertypeDenied, DroppedEthBroadcast, DroppedArpReplySpaNoHost, DroppedGarpReply, DroppedArpOtherHost, DroppedIpv4L2Broadcast, DroppedIpv4BroadcastAddr, DroppedIpv4BroadcastNet, DroppedIpv4Multicast, DroppedIpv4KeepaliveAck, DroppedIpv6RouterSolicitation, DroppedIpv6MulticastNa, DroppedIpv6Multicast, DroppedRa}
+use Rattle.data_counters.specs.declared.counter.Counter.TheVariants.{TotalPackets, PassedArp, PassedArpNonIpv4, PassedArpUnknown, PassedArpUnicastReply, PassedDhcp, PassedIpv4, PassedIpv4Unicast, PassedIpv6NonIcmp, PassedIpv6UnicastNonIcmp, PassedIpv6Icmp, PassedNonIpUnicast, Dropped8023Frame, DroppedEthertypeDenied, DroppedEthBroadcast, DroppedArpReplySpaNoHost, DroppedGarpReply, DroppedArpOtherHost, DroppedIpv4L2Broadcast, DroppedIpv4BroadcastAddr, DroppedIpv4BroadcastNet, DroppedIpv4Multicast, DroppedIpv4KeepaliveAck, DroppedIpv6RouterSolicitation, DroppedIpv6MulticastNa, DroppedIpv6Multicast, DroppedRa, DroppedIpv4NattKeepalive}
 
 pub record Row : Type 0 where
   pub number : ℕ
@@ -40,6 +40,7 @@ row_of DroppedIpv6RouterSolicitation = row 24 (codes "DROPPED_IPV6_ROUTER_SOLICI
 row_of DroppedIpv6MulticastNa = row 25 (codes "DROPPED_IPV6_MULTICAST_NA")
 row_of DroppedIpv6Multicast = row 26 (codes "DROPPED_IPV6_MULTICAST")
 row_of DroppedRa = row 27 (codes "DROPPED_RA")
+row_of DroppedIpv4NattKeepalive = row 28 (codes "DROPPED_IPV4_NATT_KEEPALIVE")
 
 abbrev pub number_of : Counter → ℕ
 number_of c = (row_of c).number
@@ -49,7 +50,7 @@ name_of c = (row_of c).name
 
 -- all of them, by their numbers
 abbrev pub all_counters : List Counter
-all_counters = TotalPackets ∷ PassedArp ∷ PassedArpNonIpv4 ∷ PassedArpUnknown ∷ PassedArpUnicastReply ∷ PassedDhcp ∷ PassedIpv4 ∷ PassedIpv4Unicast ∷ PassedIpv6NonIcmp ∷ PassedIpv6UnicastNonIcmp ∷ PassedIpv6Icmp ∷ PassedNonIpUnicast ∷ Dropped8023Frame ∷ DroppedEthertypeDenied ∷ DroppedEthBroadcast ∷ DroppedArpReplySpaNoHost ∷ DroppedGarpReply ∷ DroppedArpOtherHost ∷ DroppedIpv4L2Broadcast ∷ DroppedIpv4BroadcastAddr ∷ DroppedIpv4BroadcastNet ∷ DroppedIpv4Multicast ∷ DroppedIpv4KeepaliveAck ∷ DroppedIpv6RouterSolicitation ∷ DroppedIpv6MulticastNa ∷ DroppedIpv6Multicast ∷ DroppedRa ∷ []
+all_counters = TotalPackets ∷ PassedArp ∷ PassedArpNonIpv4 ∷ PassedArpUnknown ∷ PassedArpUnicastReply ∷ PassedDhcp ∷ PassedIpv4 ∷ PassedIpv4Unicast ∷ PassedIpv6NonIcmp ∷ PassedIpv6UnicastNonIcmp ∷ PassedIpv6Icmp ∷ PassedNonIpUnicast ∷ Dropped8023Frame ∷ DroppedEthertypeDenied ∷ DroppedEthBroadcast ∷ DroppedArpReplySpaNoHost ∷ DroppedGarpReply ∷ DroppedArpOtherHost ∷ DroppedIpv4L2Broadcast ∷ DroppedIpv4BroadcastAddr ∷ DroppedIpv4BroadcastNet ∷ DroppedIpv4Multicast ∷ DroppedIpv4KeepaliveAck ∷ DroppedIpv6RouterSolicitation ∷ DroppedIpv6MulticastNa ∷ DroppedIpv6Multicast ∷ DroppedRa ∷ DroppedIpv4NattKeepalive ∷ []
 
 -- how many there are
 abbrev pub counter_count : ℕ

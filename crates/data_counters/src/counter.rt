@@ -62,10 +62,12 @@ pub enum Counter {
     DroppedIpv6Multicast = 26,
     /// Router advertisements that say nothing new.
     DroppedRa = 27,
+    /// NAT keepalives over UDP (RFC 3948, section 2.3).
+    DroppedIpv4NattKeepalive = 28,
 }
 
 /// How many counters there are.
-pub const COUNTER_COUNT: u8 = 27;
+pub const COUNTER_COUNT: u8 = 28;
 
 /// All counters, in the order of their numbers.
 pub const COUNTERS: [Counter; COUNTER_COUNT as usize] = [
@@ -96,6 +98,7 @@ pub const COUNTERS: [Counter; COUNTER_COUNT as usize] = [
     Counter::DroppedIpv6MulticastNa,
     Counter::DroppedIpv6Multicast,
     Counter::DroppedRa,
+    Counter::DroppedIpv4NattKeepalive,
 ];
 
 /// The first of these counters that has a number.
@@ -113,7 +116,7 @@ impl Counter {
     ghost use Rattle.std.specs.Prelude.{◌≡◌, ◌<◌, ◌≤◌, ◌⊎◌, ◌↔◌, IsNone};
     ghost use Rattle.data_counters.specs.Counters.{name_of, counter_of, counter_count};
 
-    /// The counter's number, from 1 to 27.
+    /// The counter's number, from 1 to 28.
     pub fn number(self) -> u8
         ensures value { result ≡ number_of self }
         ensures range { (1 ≤ result) × (result ≤ counter_count) }
@@ -153,10 +156,11 @@ impl Counter {
             Counter::DroppedIpv6MulticastNa => "DROPPED_IPV6_MULTICAST_NA",
             Counter::DroppedIpv6Multicast => "DROPPED_IPV6_MULTICAST",
             Counter::DroppedRa => "DROPPED_RA",
+            Counter::DroppedIpv4NattKeepalive => "DROPPED_IPV4_NATT_KEEPALIVE",
         }
     }
 
-    /// The counter of a number. There is none exactly for 0 and above 27.
+    /// The counter of a number. There is none exactly for 0 and above 28.
     pub fn from_number(n: u8) -> Option<Counter>
         ensures counter { result ≡ counter_of n }
         ensures none { IsNone result ↔ ((n ≡ 0) ⊎ (counter_count < n)) }

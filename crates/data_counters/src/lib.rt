@@ -1,6 +1,6 @@
 //! The counters of the packet filter, in the memory of 128 bytes that a program runs over.
 //!
-//! Each of the 27 counters is one big-endian word of the memory. Raising a counter adds one to its word, modulo 2^32,
+//! Each of the 28 counters is one big-endian word of the memory. Raising a counter adds one to its word, modulo 2^32,
 //! and leaves all other bytes. No call takes memory or fails.
 #![tactic(auto)]
 

@@ -15,6 +15,7 @@ fn counters_stand_in_their_words(rt: HostRuntime) {
     let mut memory = [0; 128];
     memory[20..24].copy_from_slice(&[0x01, 0x02, 0x03, 0x04]);
     assert_eq!(rt; get(&memory, Counter::DroppedRa), 0x0102_0304);
+    assert_eq!(rt; get(&memory, Counter::DroppedIpv4NattKeepalive), 0);
 
     let mut sum = FULL;
     add_all(&mut sum, &memory);
@@ -29,7 +30,8 @@ fn counters_have_names(rt: HostRuntime) {
         (1, Some("TOTAL_PACKETS")),
         (13, Some("DROPPED_802_3_FRAME")),
         (27, Some("DROPPED_RA")),
-        (28, None),
+        (28, Some("DROPPED_IPV4_NATT_KEEPALIVE")),
+        (29, None),
         (0, None),
     ] {
         assert_eq!(rt;

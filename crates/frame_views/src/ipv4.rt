@@ -105,11 +105,32 @@ impl<'a> Udp<'a> {
         Udp { frame, h }
     }
 
+    /// The source port: 2 bytes at 14 + h.
+    pub fn source_port(&self) -> Option<u32>
+        ensures { result ≡ field self.now.frame (14 + self.now.header) 2 }
+    {
+        number(self.frame, 14 + self.h, 2)
+    }
+
     /// The destination port: 2 bytes at 16 + h.
     pub fn destination_port(&self) -> Option<u32>
         ensures { result ≡ field self.now.frame (16 + self.now.header) 2 }
     {
         number(self.frame, 16 + self.h, 2)
+    }
+
+    /// The length in bytes, of header and data: 2 bytes at 18 + h.
+    pub fn length(&self) -> Option<u32>
+        ensures { result ≡ field self.now.frame (18 + self.now.header) 2 }
+    {
+        number(self.frame, 18 + self.h, 2)
+    }
+
+    /// The first byte of the data: 1 byte at 22 + h.
+    pub fn first_byte(&self) -> Option<u32>
+        ensures { result ≡ field self.now.frame (22 + self.now.header) 1 }
+    {
+        number(self.frame, 22 + self.h, 1)
     }
 
     /// The client's hardware address in a DHCP message (`chaddr`, RFC 2131, section 2): 6 bytes at 50 + h.

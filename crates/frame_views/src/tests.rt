@@ -105,7 +105,13 @@ fn fields_behind_ipv4(rt: HostRuntime) {
     assert_eq!(rt; segment.size_byte(), Some(0x50));
     assert_eq!(rt; segment.opening(), TCP_SEGMENT.get(34..46));
     let datagram = Udp::new(&TCP_SEGMENT, 20);
-    assert_eq!(rt; datagram.destination_port(), Some(40_000));
+    let numbers = [
+        datagram.source_port(),
+        datagram.destination_port(),
+        datagram.length(),
+        datagram.first_byte(),
+    ];
+    assert_eq!(rt; numbers, [Some(443), Some(40_000), Some(0), Some(0)]);
     assert_eq!(rt; datagram.client_mac(), None);
 }
 

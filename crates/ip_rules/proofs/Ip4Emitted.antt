@@ -20,22 +20,22 @@ pub ip4_emitted : (basis : Basis) (next label : ℕ) (none keepalives old new : 
     → Emits (λ age frame. said_of (keepalive_answers basis frame)) (keepalive_weight * count_by is_some basis.state.keepalives) next label none keepalives
     → (basis.state.multicast ≡ true → IsMac basis.config.mac) → (basis.state.multicast ≡ true → IsNetInRange basis.state.address)
     → new ≡ old ++ ip4_items basis label keepalives → label ≤ next + 9
-    → Emits (λ age frame. said_of (ip4 basis frame)) (ip4_room + keepalive_weight * count_by is_some basis.state.keepalives) next (label + 2) old new
+    → Emits (λ age frame. said_of (ip4 basis frame)) (ip4_room + keepalive_weight * count_by is_some basis.state.keepalives) next (label + 3) old new
 ip4_emitted basis next label none keepalives old new empty le made is_mac fits e few =
     let most = keepalive_weight * count_by is_some basis.state.keepalives in
     let same : made.fragment ≡ keepalives = sym (made.appended ∙ ap (λ (xs : List Item). xs ++ made.fragment) empty) in
     let x : IsPart (λ age frame. said_of (keepalive_answers basis frame)) next label most keepalives = subst (λ (xs : List Item). IsPart (λ age frame. said_of (keepalive_answers basis frame)) next label most xs) same made.part in
     let up : next ≤ label = x.form.rises in
-    let apart = fresh-above next (label + 1) (label + 1) (packet_items basis label keepalives) (packet_fragment basis next label most keepalives x.form is_mac fits).fresh (omega arith) in
-    let whole : IsPart (λ age frame. said_of (ip4 basis frame)) next (label + 1 + 1) (11 + (100 + (most + 26))) (ip4_items basis label keepalives) = record {
+    let apart = fresh-above next (label + 2) (label + 2) (packet_items basis label keepalives) (packet_fragment basis next label most keepalives x.form is_mac fits).fresh (omega arith) in
+    let whole : IsPart (λ age frame. said_of (ip4 basis frame)) next (label + 2 + 1) (11 + (100 + (most + 90))) (ip4_items basis label keepalives) = record {
       form = ip4_fragment basis next label most keepalives x.form is_mac fits;
       tells = ip4_tells basis next label most keepalives le is_mac x apart;
     } in
-    let two : label + 1 + 1 ≡ label + 2 = omega arith in
+    let three : label + 2 + 1 ≡ label + 3 = omega arith in
     record {
       fragment = ip4_items basis label keepalives;
       appended = e;
-      part = subst (λ (to : ℕ). IsPart (λ age frame. said_of (ip4 basis frame)) next to (ip4_room + most) (ip4_items basis label keepalives)) two
-          (part-same _ _ next (label + 1 + 1) _ (ip4_room + most) _ (λ age frame. refl) (omega arith) whole);
+      part = subst (λ (to : ℕ). IsPart (λ age frame. said_of (ip4 basis frame)) next to (ip4_room + most) (ip4_items basis label keepalives)) three
+          (part-same _ _ next (label + 2 + 1) _ (ip4_room + most) _ (λ age frame. refl) (omega arith) whole);
       few = omega arith;
     }

@@ -1,12 +1,12 @@
 -- The forms of the items for IPv4.
-use Rattle.std.proofs.Common.{◌≡◌, ℕ, ◌+◌, ◌<◌, ◌≤◌, ◌^◌, Bool, true, false, cond, ltb, List, [], ◌∷◌, ◌++◌, length, Option, Some, None, refl, ap, arith, lit<, lit≤}
+use Rattle.std.proofs.Common.{◌≡◌, ℕ, ◌+◌, ◌<◌, ◌≤◌, ◌^◌, Bool, true, false, cond, ltb, List, [], ◌∷◌, ◌++◌, length, Option, Some, None, refl, ap, subst, arith, lit<, lit≤}
 use Rattle.std.proofs.lemmas.Bool.{ltb-true}
-use Rattle.apf_coding.specs.declared.instruction.Op.TheVariants.{Ldb, Ldh, Ldw, Ldhx, Add, And, Ext, Li, Jeq, Jne, Jset}
+use Rattle.apf_coding.specs.declared.instruction.Op.TheVariants.{Ldb, Ldh, Ldw, Ldbx, Ldhx, Add, And, Ext, Li, Jeq, Jne, Jset}
 use Rattle.apf_coding.specs.declared.machine.Verdict.TheVariants.{Pass, Drop}
 use Rattle.apf_asm.specs.declared.item.Item.{Item}
 use Rattle.apf_asm.specs.declared.item.Target.TheVariants as targets
 use Rattle.apf_asm.specs.Layout.{wide_length}
-use Rattle.data_counters.specs.declared.counter.Counter.TheVariants.{PassedDhcp, PassedIpv4, PassedIpv4Unicast, DroppedIpv4L2Broadcast, DroppedIpv4BroadcastAddr, DroppedIpv4BroadcastNet, DroppedIpv4Multicast}
+use Rattle.data_counters.specs.declared.counter.Counter.TheVariants.{PassedDhcp, PassedIpv4, PassedIpv4Unicast, DroppedIpv4L2Broadcast, DroppedIpv4BroadcastAddr, DroppedIpv4BroadcastNet, DroppedIpv4Multicast, DroppedIpv4NattKeepalive}
 use Rattle.data_counters.specs.Counters.{number_of}
 use Rattle.policy_state.specs.declared.basis.Basis.{Basis}
 use Rattle.policy_state.specs.declared.state.Address.{Address}
@@ -18,7 +18,7 @@ use Rattle.apf_asm.proofs.Forms.{IsSound, stands-here, bytes_fit, sound-nil, sou
 use Rattle.apf_asm.proofs.Parts.{fragment-of, fragment-then, fragment-turned}
 use Rattle.policy_state.proofs.Rulings.{has_word}
 use Rattle.policy_state.specs.Ranges.{IsMac}
-use Rattle.ip_rules.specs.Ip4Listing.{header_into, dhcp_items, net_items, destination_items, filtered_items, last_items, ip4_items, IsNetInRange}
+use Rattle.ip_rules.specs.Ip4Listing.{header_into, dhcp_items, net_items, destination_items, filtered_items, natt_items, last_items, behind_items, ip4_items, IsNetInRange}
 use Rattle.ip_rules.proofs.Ip4Ruling.{packet_items}
 use Rattle.ip_rules.proofs.Over.{over_fragment}
 use Rattle.ip_rules.proofs.KeepaliveForm.{fresh-one}
@@ -82,6 +82,38 @@ filtered_fragment true label mac address is_mac fits =
     fragment-then label (label + 1) (label + 1) 61 39 (dhcp_items label mac) (destination_items address) (dhcp_fragment label mac (is_mac refl)) (destination_fragment (label + 1) address (fits refl))
 filtered_fragment false label mac address is_mac fits = fragment-of label (label + 1) 100 [] sound-nil (omega arith) tt (omega arith) (lit≤ tt)
 
+-- ---- NAT keepalives
+
+sound-natt : (away : ℕ) → IsSound (natt_items away)
+sound-natt away =
+    let dropped = count (number_of DroppedIpv4NattKeepalive) ∷ jump (to_end Drop) ∷ [] in
+    let first = load Ldbx 22 ∷ jump_if Jne 0xff (targets.Label away) ∷ dropped in
+    let bytes = load Ldhx 18 ∷ jump_if Jne 9 (targets.Label away) ∷ first in
+    let port = header_into 1 ∷ load Ldhx 14 ∷ jump_if Jne 4500 (targets.Label away) ∷ bytes in
+    let whole = load Ldh 20 ∷ jump_if Jset 0x1fff (targets.Label away) ∷ port in
+    sound-byte Ldb 0 23 _ refl (lit< tt) (lit< tt) (sound-if_label Jne 17 away _ refl (lit< tt) (stands-here away whole [])
+    (sound-byte Ldh 0 20 _ refl (lit< tt) (lit< tt) (sound-if_label Jset 0x1fff away _ refl (lit< tt) (stands-here away port [])
+    (sound-byte Ext 1 13 _ refl (lit< tt) (lit< tt) (sound-byte Ldhx 0 14 _ refl (lit< tt) (lit< tt) (sound-if_label Jne 4500 away _ refl (lit< tt) (stands-here away bytes [])
+    (sound-byte Ldhx 0 18 _ refl (lit< tt) (lit< tt) (sound-if_label Jne 9 away _ refl (lit< tt) (stands-here away first [])
+    (sound-byte Ldbx 0 22 _ refl (lit< tt) (lit< tt) (sound-if_label Jne 0xff away _ refl (lit< tt) (stands-here away dropped [])
+    (sound-count (number_of DroppedIpv4NattKeepalive) _ (has_word DroppedIpv4NattKeepalive) (sound-jump_end Drop _ (sound-label away [] sound-nil)))))))))))))
+
+wide-natt : (away : ℕ) → wide_length (natt_items away) ≤ 64
+wide-natt away = lit≤ tt
+
+labels-natt : (away : ℕ) → labels (natt_items away) ≡ away ∷ []
+unfolding labels
+labels-natt away = refl
+
+natt_fragment : (away : ℕ) → IsFragment away (away + 1) 64 (natt_items away)
+natt_fragment away =
+    fragment-of away (away + 1) 64 (natt_items away)
+    (sound-natt away)
+    (omega arith)
+    (fresh-one away _ (labels-natt away))
+    (omega (arith, ap length (labels-natt away)))
+    (wide-natt away)
+
 -- ---- all other packets
 
 last_fragment : (on : Bool) (l : ℕ) → IsFragment l l 26 (last_items on)
@@ -96,11 +128,15 @@ last_fragment false l = fragment-of l l 26 (last_items false) (sound-count (numb
 -- ---- the whole
 
 module _ (basis : Basis) (from label most : ℕ) (keepalives : List Item) (x : IsFragment from label most keepalives) (is_mac : basis.state.multicast ≡ true → IsMac basis.config.mac) (fits : basis.state.multicast ≡ true → IsNetInRange basis.state.address) where
-  pub packet_fragment : IsFragment from (label + 1) (100 + (most + 26)) (packet_items basis label keepalives)
+  pub packet_fragment : IsFragment from (label + 2) (100 + (most + 90)) (packet_items basis label keepalives)
   packet_fragment =
-      fragment-turned from label (label + 1) 100 (most + 26) (filtered_items basis.state.multicast label basis.config.mac basis.state.address) (keepalives ++ last_items basis.state.multicast)
-      (filtered_fragment basis.state.multicast label basis.config.mac basis.state.address is_mac fits)
-      (fragment-then from label label most 26 keepalives (last_items basis.state.multicast) x (last_fragment basis.state.multicast label))
+      let on = basis.state.multicast in
+      let two : label + 1 + 1 ≡ label + 2 = omega arith in
+      subst (λ (to : ℕ). IsFragment from to (100 + (most + 90)) (packet_items basis label keepalives)) two
+      (fragment-turned from (label + 1) (label + 1 + 1) 100 (most + 90) (filtered_items on (label + 1) basis.config.mac basis.state.address) (keepalives ++ behind_items on label)
+      (filtered_fragment on (label + 1) basis.config.mac basis.state.address is_mac fits)
+      (fragment-then from label (label + 1) most 90 keepalives (behind_items on label) x
+      (fragment-then label (label + 1) (label + 1) 64 26 (natt_items label) (last_items on) (natt_fragment label) (last_fragment on (label + 1)))))
 
-  pub ip4_fragment : IsFragment from (label + 1 + 1) (11 + (100 + (most + 26))) (ip4_items basis label keepalives)
-  ip4_fragment = over_fragment Ldh 12 0x800 from (label + 1) (100 + (most + 26)) (packet_items basis label keepalives) refl refl (lit< tt) (lit< tt) packet_fragment
+  pub ip4_fragment : IsFragment from (label + 2 + 1) (11 + (100 + (most + 90))) (ip4_items basis label keepalives)
+  ip4_fragment = over_fragment Ldh 12 0x800 from (label + 2) (100 + (most + 90)) (packet_items basis label keepalives) refl refl (lit< tt) (lit< tt) packet_fragment

@@ -21,7 +21,7 @@ use Rattle.policy_state.specs.declared.ruling.Ruling.TheVariants.{Says, Silent}
 use Rattle.policy_state.specs.declared.state.Address.{Address}
 use Rattle.policy_state.specs.Asking.{reading, when, otherwise}
 use Rattle.policy_state.specs.Ethernet.{destination, ethertype, broadcast}
-use Rattle.policy_state.specs.Ip4.{protocol, fragment, destination_address, net_broadcast_of, net_broadcast, keepalive_answers, ip4_lines}
+use Rattle.policy_state.specs.Ip4.{protocol, fragment, destination_address, net_broadcast_of, net_broadcast, keepalive_answers, natt_keepalives, ip4_lines}
 use Rattle.policy_state.specs.Policy.{ip4}
 use Rattle.policy_state.proofs.AskingLaws.{otherwise-assoc, otherwise-when, reading-cond, reading-over, reading-when, when-cond}
 use Rattle.policy_state.proofs.FieldsSeen.{number_seen, bytes_seen}
@@ -33,8 +33,9 @@ use Rattle.apf_asm.proofs.Parts.{part-yields}
 use Rattle.apf_asm.proofs.Rules.{Yields, frame_bytes, done, restated, counts, places, adds, masks, recalls_0, recalls_1, reads_byte, reads_half, reads_half_at, reads_word, answers, answers_if, answers_unless, labelled, leaves_if, leaves_unless, skips_if, then_on, told}
 use Rattle.policy_state.proofs.Rulings.{rulings}
 use Rattle.policy_state.specs.Ranges.{IsMac}
-use Rattle.ip_rules.specs.Ip4Listing.{header_into, dhcp_items, net_items, destination_items, filtered_items, last_items, ip4_items}
+use Rattle.ip_rules.specs.Ip4Listing.{header_into, dhcp_items, net_items, destination_items, filtered_items, natt_items, last_items, behind_items, ip4_items}
 use Rattle.ip_rules.proofs.HeaderSeen.{header_slot, bytes_behind, number_behind}
+use Rattle.ip_rules.proofs.NattRuling.{before_label, natt_yields}
 
 -- ---- the rulings as the items come to them
 
@@ -71,6 +72,9 @@ abbrev last_ruling : Bool → List ℕ → Ruling
 last_ruling true frame = reading (destination frame) (λ mac. cond (not (bytes_eq mac broadcast)) (Says Pass PassedIpv4Unicast) (Says Drop DroppedIpv4L2Broadcast))
 last_ruling false frame = Says Pass PassedIpv4
 
+abbrev behind_ruling : Bool → List ℕ → Ruling
+behind_ruling on frame = otherwise (natt_keepalives frame) (last_ruling on frame)
+
 -- ---- are those of the table
 
 net_cases : (o : Option ℕ) (small : Bool) (test : ℕ → Bool) (verdict : Verdict) (counter : Counter) (there : ℕ → Bool) (a : Ruling)
@@ -106,36 +110,34 @@ host_last (Some m) later = go (bytes_eq m broadcast)
     go false = refl
 
 -- the lines where multicast is filtered
-filtered_lines : (dhcp multicast all net answer host host' last : Ruling) → host' ≡ otherwise host last
-    → otherwise (otherwise dhcp (otherwise multicast (otherwise all net))) (otherwise answer host') ≡ otherwise dhcp (otherwise multicast (otherwise all (otherwise net (otherwise answer (otherwise host last)))))
-filtered_lines dhcp multicast all net answer host host' last e = simp otherwise-assoc (ap (λ (h : Ruling). otherwise dhcp (otherwise multicast (otherwise all (otherwise net (otherwise answer h))))) e)
+filtered_lines : (dhcp multicast all net answer natt host host' last : Ruling) → host' ≡ otherwise host last
+    → otherwise (otherwise dhcp (otherwise multicast (otherwise all net))) (otherwise answer (otherwise natt host'))
+    ≡ otherwise dhcp (otherwise multicast (otherwise all (otherwise net (otherwise answer (otherwise natt (otherwise host last))))))
+filtered_lines dhcp multicast all net answer natt host host' last e = simp otherwise-assoc (ap (λ (h : Ruling). otherwise dhcp (otherwise multicast (otherwise all (otherwise net (otherwise answer (otherwise natt h)))))) e)
 
 lines_same : (on : Bool) (mac : List ℕ) (address : Option Address) (frame : List ℕ) (answer : Ruling)
-    → otherwise (filtered_ruling on mac address frame) (otherwise answer (last_ruling on frame))
+    → otherwise (filtered_ruling on mac address frame) (otherwise answer (behind_ruling on frame))
     ≡ otherwise (when on (dhcp_ruling mac frame))
     (otherwise (when on (reading (field frame 30 1) (λ b. when (eqb (bit_and b 0xf0) 0xe0) (Says Drop DroppedIpv4Multicast))))
     (otherwise (when on (reading (destination_address frame) (λ d. when (eqb d 0xffffffff) (Says Drop DroppedIpv4BroadcastAddr))))
     (otherwise (when on (net_broadcast address frame))
     (otherwise answer
+    (otherwise (natt_keepalives frame)
     (otherwise (when on (host_ruling (destination frame)))
-    (otherwise (Says Pass PassedIpv4) Silent))))))
+    (otherwise (Says Pass PassedIpv4) Silent)))))))
 lines_same false mac address frame answer = refl
 lines_same true mac address frame answer =
-    ap (λ (r : Ruling). otherwise (otherwise (dhcp_ruling mac frame) r) (otherwise answer (last_ruling true frame)))
+    ap (λ (r : Ruling). otherwise (otherwise (dhcp_ruling mac frame) r) (otherwise answer (behind_ruling true frame)))
     (reading-cond (field frame 30 1) (λ b. eqb (bit_and b 0xf0) 0xe0) Drop DroppedIpv4Multicast (address_ruling address frame)
     ∙ ap (λ (r : Ruling). otherwise (reading (field frame 30 1) (λ b. when (eqb (bit_and b 0xf0) 0xe0) (Says Drop DroppedIpv4Multicast))) r) (net_same address frame))
-    ∙ filtered_lines (dhcp_ruling mac frame) _ _ (net_broadcast address frame) answer (host_ruling (destination frame)) (last_ruling true frame) (Says Pass PassedIpv4)
+    ∙ filtered_lines (dhcp_ruling mac frame) _ _ (net_broadcast address frame) answer (natt_keepalives frame) (host_ruling (destination frame)) (last_ruling true frame) (Says Pass PassedIpv4)
     (host_same (destination frame) ∙ host_last (destination frame) (Says Pass PassedIpv4))
 
 packet_same : (basis : Basis) (frame : List ℕ)
-    → otherwise (filtered_ruling basis.state.multicast basis.config.mac basis.state.address frame) (otherwise (keepalive_answers basis frame) (last_ruling basis.state.multicast frame)) ≡ ip4_lines basis frame
+    → otherwise (filtered_ruling basis.state.multicast basis.config.mac basis.state.address frame) (otherwise (keepalive_answers basis frame) (behind_ruling basis.state.multicast frame)) ≡ ip4_lines basis frame
 packet_same basis frame = lines_same basis.state.multicast basis.config.mac basis.state.address frame (keepalive_answers basis frame)
 
 -- ---- the items come to them
-
--- the items with their label behind them
-abbrev before_label : ℕ → List Item → List Item
-before_label away xs = xs ++ (items.Label away ∷ [])
 
 module _ (n : ℕ) (frame : List ℕ) (m : State) (slot : get_or m.slots 13 0 ≡ header_length frame) (mac : List ℕ) (is_mac : IsMac mac) (away : ℕ) (le : 2 ≤ away) where
   abbrev passed_items : List Item
@@ -223,6 +225,11 @@ module _ (n : ℕ) (frame : List ℕ) (m : State) where
       (answers rulings n frame m 0 Drop DroppedIpv4L2Broadcast Silent [] (done rulings n frame m 0 _)))))
   last_yields false r0 r1 = counts rulings n frame m r0 r1 PassedIpv4 _ _ (answers rulings n frame m r0 Pass PassedIpv4 Silent [] (done rulings n frame m r0 _))
 
+  behind_yields : (on : Bool) (label r0 r1 : ℕ) → get_or m.slots 13 0 ≡ header_length frame → 2 ≤ label
+      → Yields rulings n frame m r0 r1 (behind_ruling on frame) (behind_items on label)
+  behind_yields on label r0 r1 slot le =
+      then_on rulings n frame m r0 r1 _ _ (natt_items label) (last_items on) (natt_yields n frame m slot label le r0 r1) (last_yields on)
+
   filtered_yields : (on : Bool) (label : ℕ) (mac : List ℕ) (address : Option Address) (r0 r1 : ℕ) → get_or m.slots 13 0 ≡ header_length frame → 2 ≤ label → (on ≡ true → IsMac mac)
       → Yields rulings n frame m r0 r1 (filtered_ruling on mac address frame) (filtered_items on label mac address)
   filtered_yields true label mac address r0 r1 slot le is_mac =
@@ -231,21 +238,21 @@ module _ (n : ℕ) (frame : List ℕ) (m : State) where
 
 -- the packet's items
 abbrev pub packet_items : Basis → ℕ → List Item → List Item
-packet_items basis label keepalives = filtered_items basis.state.multicast label basis.config.mac basis.state.address ++ (keepalives ++ last_items basis.state.multicast)
+packet_items basis label keepalives = filtered_items basis.state.multicast (label + 1) basis.config.mac basis.state.address ++ (keepalives ++ behind_items basis.state.multicast label)
 
 pub ip4_tells : (basis : Basis) (from label most : ℕ) (keepalives : List Item) → 2 ≤ from → (basis.state.multicast ≡ true → IsMac basis.config.mac)
     → IsPart (λ age frame. said_of (keepalive_answers basis frame)) from label most keepalives
-    → stands (label + 1) (packet_items basis label keepalives) ≡ false
+    → stands (label + 2) (packet_items basis label keepalives) ≡ false
     → TellsSaid (λ age frame. said_of (ip4 basis frame)) (ip4_items basis label keepalives)
 ip4_tells basis from label most keepalives le is_mac x apart =
     let up : from ≤ label = x.form.rises in
     told rulings (λ age frame. ip4 basis frame) _ (λ n frame age m ready.
     restated rulings n frame m m.r0 m.r1 _ _ _ (ap (λ (a : Ruling). reading (ethertype frame) (λ e. cond (not (eqb e 0x800)) Silent (otherwise a Silent))) (packet_same basis frame) ∙ reading-over (ethertype frame) (λ e. eqb e 0x800) (ip4_lines basis frame))
     (reads_half rulings n frame m m.r0 m.r1 1 12 _ _ (ethertype frame) (number_seen frame 12 2) (λ e.
-    skips_if rulings n frame m Jne 0x800 (label + 1) e m.r1 _ Silent (packet_items basis label keepalives) [] refl (omega arith) apart
-    (then_on rulings n frame m e m.r1 _ _ _ (keepalives ++ last_items basis.state.multicast)
-    (filtered_yields n frame m basis.state.multicast label basis.config.mac basis.state.address e m.r1 (header_slot n frame age m ready) (omega arith) is_mac)
-    (λ p0 p1. then_on rulings n frame m p0 p1 _ _ keepalives (last_items basis.state.multicast)
+    skips_if rulings n frame m Jne 0x800 (label + 2) e m.r1 _ Silent (packet_items basis label keepalives) [] refl (omega arith) apart
+    (then_on rulings n frame m e m.r1 _ _ _ (keepalives ++ behind_items basis.state.multicast label)
+    (filtered_yields n frame m basis.state.multicast (label + 1) basis.config.mac basis.state.address e m.r1 (header_slot n frame age m ready) (omega arith) is_mac)
+    (λ p0 p1. then_on rulings n frame m p0 p1 _ _ keepalives (behind_items basis.state.multicast label)
     (part-yields rulings (λ age frame. keepalive_answers basis frame) from label most keepalives le x n frame age m ready p0 p1)
-    (last_yields n frame m basis.state.multicast)))
+    (λ q0 q1. behind_yields n frame m basis.state.multicast label q0 q1 (header_slot n frame age m ready) (omega arith))))
     (λ q0 q1. done rulings n frame m q0 q1))))

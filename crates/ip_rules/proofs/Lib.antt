@@ -8,4 +8,5 @@ pub mod Ip6Sound
 pub mod KeepaliveForm
 pub mod KeepaliveRuling
 pub mod KeepalivesEmitted
+pub mod NattRuling
 pub mod Over

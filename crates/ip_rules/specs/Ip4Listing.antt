@@ -1,5 +1,5 @@
 -- The items of the rules for IPv4 and for keepalives. Headers are those of RFC 791 (IPv4), RFC 768 (UDP), RFC 2131 (DHCP)
--- and RFC 9293 (TCP).
+-- and RFC 9293 (TCP); NAT keepalives are those of RFC 3948.
 use Rattle.std.specs.Prelude.{ℕ, ◌+◌, ◌<◌, ◌^◌, Bool, true, false, nat_lt, if◌then◌else◌, List, [], ◌∷◌, ◌++◌, Option, Some, None, count_by, is_some}
 use Rattle.std.specs.List.{list_any}
 use Rattle.apf_coding.specs.declared.instruction.Op.TheVariants.{Ldb, Ldh, Ldw, Ldbx, Ldhx, Add, Div, And, Ext, Jeq, Jne, Jset}
@@ -7,7 +7,7 @@ use Rattle.apf_coding.specs.declared.machine.Verdict.TheVariants.{Pass, Drop}
 use Rattle.apf_asm.specs.declared.item.Item.{Item}
 use Rattle.apf_asm.specs.declared.item.Item.TheVariants as items
 use Rattle.apf_asm.specs.declared.item.Target.TheVariants as targets
-use Rattle.data_counters.specs.declared.counter.Counter.TheVariants.{PassedDhcp, PassedIpv4, PassedIpv4Unicast, DroppedIpv4L2Broadcast, DroppedIpv4BroadcastAddr, DroppedIpv4BroadcastNet, DroppedIpv4Multicast, DroppedIpv4KeepaliveAck}
+use Rattle.data_counters.specs.declared.counter.Counter.TheVariants.{PassedDhcp, PassedIpv4, PassedIpv4Unicast, DroppedIpv4L2Broadcast, DroppedIpv4BroadcastAddr, DroppedIpv4BroadcastNet, DroppedIpv4Multicast, DroppedIpv4KeepaliveAck, DroppedIpv4NattKeepalive}
 use Rattle.data_counters.specs.Counters.{number_of}
 use Rattle.policy_state.specs.declared.basis.Basis.{Basis}
 use Rattle.policy_state.specs.declared.state.Address.{Address}
@@ -86,9 +86,21 @@ filtered_items false away mac address = []
 -- behind what is asked of every frame
 abbrev pub first_items : Basis → ℕ → List Item
 first_items basis label =
-    load Ldh 12 ∷ jump_if Jne 0x800 (targets.Label (label + 1)) ∷ filtered_items basis.state.multicast label basis.config.mac basis.state.address
+    load Ldh 12 ∷ jump_if Jne 0x800 (targets.Label (label + 2)) ∷ filtered_items basis.state.multicast (label + 1) basis.config.mac basis.state.address
 
 -- ---- what is asked behind
+
+-- NAT keepalives; other packets go over it
+abbrev pub natt_items : ℕ → List Item
+natt_items away =
+    load Ldb 23 ∷ jump_if Jne 17 (targets.Label away)
+    ∷ load Ldh 20 ∷ jump_if Jset 0x1fff (targets.Label away)
+    ∷ header_into 1 ∷ load Ldhx 14 ∷ jump_if Jne 4500 (targets.Label away)
+    ∷ load Ldhx 18 ∷ jump_if Jne 9 (targets.Label away)
+    ∷ load Ldbx 22 ∷ jump_if Jne 0xff (targets.Label away)
+    ∷ count (number_of DroppedIpv4NattKeepalive) ∷ jump (to_end Drop)
+    ∷ items.Label away
+    ∷ []
 
 abbrev pub last_items : Bool → List Item
 last_items true =
@@ -99,11 +111,15 @@ last_items false = count (number_of PassedIpv4) ∷ jump (to_end Pass) ∷ []
 
 -- ---- the whole, round the items for keepalives
 
--- other frames go over the packet; the first label is DHCP's
+-- behind the keepalives
+abbrev pub behind_items : Bool → ℕ → List Item
+behind_items on label = natt_items label ++ last_items on
+
+-- other frames go over the packet; the first label is that of NAT keepalives, the next one is DHCP's
 abbrev pub ip4_items : Basis → ℕ → List Item → List Item
 ip4_items basis label keepalives =
-    load Ldh 12 ∷ jump_if Jne 0x800 (targets.Label (label + 1))
-    ∷ ((filtered_items basis.state.multicast label basis.config.mac basis.state.address ++ (keepalives ++ last_items basis.state.multicast)) ++ (items.Label (label + 1) ∷ []))
+    load Ldh 12 ∷ jump_if Jne 0x800 (targets.Label (label + 2))
+    ∷ ((filtered_items basis.state.multicast (label + 1) basis.config.mac basis.state.address ++ (keepalives ++ behind_items basis.state.multicast label)) ++ (items.Label (label + 2) ∷ []))
 
 -- ---- what is known of the basis
 

@@ -6,7 +6,7 @@ ghost use Rattle.policy_state.specs.Policy.{ip4};
 ghost use Rattle.apf_asm.specs.Fragment.{Emits};
 ghost use Rattle.policy_state.specs.Rulings.{said_of};
 ghost use Rattle.policy_state.specs.Ranges.{IsMac};
-ghost use Rattle.ip_rules.specs.Ip4Listing.{keepalive_items, dhcp_items, net_items, destination_items, filtered_items, first_items, last_items, ip4_items, IsNetInRange};
+ghost use Rattle.ip_rules.specs.Ip4Listing.{keepalive_items, dhcp_items, net_items, destination_items, filtered_items, first_items, natt_items, last_items, ip4_items, IsNetInRange};
 ghost use Rattle.policy_state.specs.Rooms.{ip4_room};
 ghost use Rattle.policy_state.specs.Weights.{keepalive_weight};
 
@@ -21,6 +21,9 @@ use std::alloc::Global;
 /// The broadcast MAC.
 const BROADCAST: [u8; 6] = [0xff; 6];
 
+/// The bits of a fragment's offset, in its word of 2 bytes (RFC 791, section 3.1).
+const FRAGMENT_OFFSET: u32 = 0x1fff;
+
 /// DHCP to this host. Other packets go over it.
 fn dhcp_items(alloc: Global, away: u32, mac: &[u8; 6]) -> Result<List<Item>, OutOfMemory>
     ensures items { IfOk result (λ xs. xs ≡ dhcp_items away mac.now) }
@@ -33,7 +36,7 @@ fn dhcp_items(alloc: Global, away: u32, mac: &[u8; 6]) -> Result<List<Item>, Out
             load(alloc, Op::Ldb, 23),
             jump_if(alloc, Op::Jne, 17, Target::Label(away)),
             load(alloc, Op::Ldh, 20),
-            jump_if(alloc, Op::Jset, 0x1fff, Target::Label(away)),
+            jump_if(alloc, Op::Jset, FRAGMENT_OFFSET, Target::Label(away)),
             header_into(alloc, 1),
             load(alloc, Op::Ldhx, 16),
             jump_if(alloc, Op::Jne, 68, Target::Label(away)),
@@ -114,7 +117,33 @@ fn add_filtered(
     Ok(())
 }
 
-/// What is asked behind the keepalives.
+/// NAT keepalives over UDP (RFC 3948, section 2.3), from port 4500. Other packets go over it.
+fn add_natt(alloc: Global, away: u32, out: &mut List<Item>) -> Result<(), OutOfMemory>
+    ensures ok { OnOk result (out.new ≡ out.old ++ natt_items away) }
+    ensures err { OnErr result (out.new ≡ out.old) }
+{
+    out.append(List::of(
+        alloc,
+        [
+            load(alloc, Op::Ldb, 23),
+            jump_if(alloc, Op::Jne, 17, Target::Label(away)),
+            load(alloc, Op::Ldh, 20),
+            jump_if(alloc, Op::Jset, FRAGMENT_OFFSET, Target::Label(away)),
+            header_into(alloc, 1),
+            load(alloc, Op::Ldhx, 14),
+            jump_if(alloc, Op::Jne, 4500, Target::Label(away)),
+            load(alloc, Op::Ldhx, 18),
+            jump_if(alloc, Op::Jne, 9, Target::Label(away)),
+            load(alloc, Op::Ldbx, 22),
+            jump_if(alloc, Op::Jne, 0xff, Target::Label(away)),
+            count(alloc, Counter::DroppedIpv4NattKeepalive.number()),
+            jump(alloc, to_end(Verdict::Drop)),
+            Item::Label(away),
+        ],
+    )?)
+}
+
+/// All other packets.
 fn add_last(alloc: Global, multicast: bool, out: &mut List<Item>) -> Result<(), OutOfMemory>
     ensures ok { OnOk result (out.new ≡ out.old ++ last_items multicast) }
     ensures err { OnErr result (out.new ≡ out.old) }
@@ -159,10 +188,10 @@ fn add_first(
         alloc,
         [
             load(alloc, Op::Ldh, 12),
-            jump_if(alloc, Op::Jne, 0x800, Target::Label(label + 1)),
+            jump_if(alloc, Op::Jne, 0x800, Target::Label(label + 2)),
         ],
     )?)?;
-    add_filtered(alloc, label, basis, out)?;
+    add_filtered(alloc, label + 1, basis, out)?;
     Ok(())
 }
 
@@ -184,11 +213,12 @@ fn add_ip4(
 {
     add_first(alloc, label, basis, out)?;
     add_keepalives(alloc, basis, next, out)?;
+    add_natt(alloc, label, out)?;
     add_last(alloc, basis.state.multicast, out)?;
-    out.push(Item::Label(label + 1))
+    out.push(Item::Label(label + 2))
 }
 
-/// Appends the question on IPv4 (RFC 791). It draws at most eleven labels.
+/// Appends the question on IPv4 (RFC 791). It draws at most twelve labels.
 ///
 /// The fragment's instructions have at most 248 bytes, and 80 for each keepalive. After an error nothing has changed.
 pub fn emit_ip4(
@@ -209,6 +239,6 @@ pub fn emit_ip4(
         out.truncate(before);
         return Err(OutOfMemory);
     };
-    *next = label + 2;
+    *next = label + 3;
     Ok(())
 }

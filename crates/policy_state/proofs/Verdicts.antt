@@ -5,7 +5,7 @@ use Rattle.std.specs.Prelude.{◌+◌, ◌/◌, bit_and, is_some, nat_lt, nat_le
 use Rattle.apf_coding.specs.declared.machine.Verdict.{Verdict}
 use Rattle.apf_coding.specs.declared.machine.Verdict.TheVariants.{Pass, Drop}
 use Rattle.data_counters.specs.declared.counter.Counter.{Counter}
-use Rattle.data_counters.specs.declared.counter.Counter.TheVariants.{PassedDhcp, PassedIpv4Unicast, DroppedIpv4L2Broadcast, DroppedIpv4BroadcastAddr, DroppedIpv4BroadcastNet, DroppedIpv4Multicast, DroppedIpv4KeepaliveAck, PassedArp, PassedArpNonIpv4, PassedArpUnknown, PassedArpUnicastReply, PassedIpv4, PassedIpv6NonIcmp, PassedIpv6UnicastNonIcmp, PassedIpv6Icmp, PassedNonIpUnicast, Dropped8023Frame, DroppedEthertypeDenied, DroppedEthBroadcast, DroppedArpReplySpaNoHost, DroppedGarpReply, DroppedArpOtherHost, DroppedRa, DroppedIpv6RouterSolicitation, DroppedIpv6MulticastNa, DroppedIpv6Multicast}
+use Rattle.data_counters.specs.declared.counter.Counter.TheVariants.{PassedDhcp, PassedIpv4Unicast, DroppedIpv4L2Broadcast, DroppedIpv4BroadcastAddr, DroppedIpv4BroadcastNet, DroppedIpv4Multicast, DroppedIpv4KeepaliveAck, DroppedIpv4NattKeepalive, PassedArp, PassedArpNonIpv4, PassedArpUnknown, PassedArpUnicastReply, PassedIpv4, PassedIpv6NonIcmp, PassedIpv6UnicastNonIcmp, PassedIpv6Icmp, PassedNonIpUnicast, Dropped8023Frame, DroppedEthertypeDenied, DroppedEthBroadcast, DroppedArpReplySpaNoHost, DroppedGarpReply, DroppedArpOtherHost, DroppedRa, DroppedIpv6RouterSolicitation, DroppedIpv6MulticastNa, DroppedIpv6Multicast}
 use Rattle.data_counters.specs.Counters.{number_of, counter_count}
 use Rattle.policy_state.specs.declared.basis.Basis.{Basis}
 use Rattle.policy_state.specs.declared.basis.Chosen.{Chosen}
@@ -17,7 +17,7 @@ use Rattle.frame_views.specs.Fields.{field, part}
 use Rattle.policy_state.specs.Ethernet.{destination, ethertype, broadcast}
 use Rattle.frame_views.specs.Packets.{header_length}
 use Rattle.policy_state.specs.declared.state.Keepalive.{Keepalive}
-use Rattle.policy_state.specs.Ip4.{protocol, destination_address, fragment, dhcp, ip4_multicast, ip4_broadcast, net_broadcast_of, net_broadcast, ends_of, opening_of, slot_answer, keepalive_answers, ip4_to_this_host, ip4_lines}
+use Rattle.policy_state.specs.Ip4.{protocol, destination_address, fragment, dhcp, ip4_multicast, ip4_broadcast, net_broadcast_of, net_broadcast, ends_of, opening_of, slot_answer, keepalive_answers, natt_keepalives, ip4_to_this_host, ip4_lines}
 use Rattle.ra_records.specs.Advert.{same}
 use Rattle.std.specs.List.{list_all, list_any}
 use Rattle.policy_state.specs.Records.{lasts, advertised_again}
@@ -149,6 +149,15 @@ told_slots frame (slot ∷ slots) = told_otherwise _ _ (told_slot frame slot) (t
 told_keepalives : (basis : Basis) (frame : List ℕ) → IsTold (keepalive_answers basis frame)
 told_keepalives basis frame = told_when (list_any is_some basis.state.keepalives) _ (told_reading (protocol frame) _ (λ p. told_when (eqb p 6) _ (told_slots frame basis.state.keepalives)))
 
+told_natt : (frame : List ℕ) → IsTold (natt_keepalives frame)
+told_natt frame =
+    told_reading (protocol frame) _ (λ p. told_when (eqb p 17) _
+    (told_reading (fragment frame) _ (λ f. told_when (eqb (bit_and f 0x1fff) 0) _
+    (told_reading (field frame (14 + header_length frame) 2) _ (λ port. told_when (eqb port 4500) _
+    (told_reading (field frame (18 + header_length frame) 2) _ (λ bytes. told_when (eqb bytes 9) _
+    (told_reading (field frame (22 + header_length frame) 1) _ (λ first. told_when (eqb first 0xff) _
+    (told_says Drop DroppedIpv4NattKeepalive (record { least = lit≤ tt; most = lit≤ tt })))))))))))
+
 told_this_host : (basis : Basis) (frame : List ℕ) → IsTold (ip4_to_this_host basis frame)
 told_this_host basis frame = told_when basis.state.multicast _ (told_reading (destination frame) _ (λ m.
     told_if (bytes_eq m broadcast) _ _ (told_says Drop DroppedIpv4L2Broadcast (record { least = lit≤ tt; most = lit≤ tt })) (told_says Pass PassedIpv4Unicast (record { least = lit≤ tt; most = lit≤ tt }))))
@@ -160,8 +169,9 @@ told_ip4 basis frame = told_reading (ethertype frame) _ (λ e. told_when (eqb e 
     (told_otherwise _ _ (told_broadcast basis frame)
     (told_otherwise _ _ (told_when basis.state.multicast _ (told_net basis.state.address frame))
     (told_otherwise _ _ (told_keepalives basis frame)
+    (told_otherwise _ _ (told_natt frame)
     (told_otherwise _ _ (told_this_host basis frame)
-    (told_otherwise _ _ (told_says Pass PassedIpv4 (record { least = lit≤ tt; most = lit≤ tt })) told_silent))))))))
+    (told_otherwise _ _ (told_says Pass PassedIpv4 (record { least = lit≤ tt; most = lit≤ tt })) told_silent)))))))))
 
 told_by_destination : (frame : List ℕ) → IsTold (by_destination frame)
 told_by_destination frame = told_reading (field frame 38 1) _ (λ b. told_if (eqb b 0xff) _ _ (told_says Drop DroppedIpv6Multicast (record { least = lit≤ tt; most = lit≤ tt })) (told_says Pass PassedIpv6UnicastNonIcmp (record { least = lit≤ tt; most = lit≤ tt })))
@@ -241,7 +251,8 @@ ip4_lines-answer basis frame =
     (later_answers (ip4_broadcast basis frame) _
     (later_answers (when basis.state.multicast (net_broadcast basis.state.address frame)) _
     (later_answers (keepalive_answers basis frame) _
-    (later_answers (ip4_to_this_host basis frame) _ (λ e. absurd cc))))))
+    (later_answers (natt_keepalives frame) _
+    (later_answers (ip4_to_this_host basis frame) _ (λ e. absurd cc)))))))
 
 pub ip4-answers : (basis : Basis) (frame : List ℕ) → ethertype frame ≡ Some 0x800 → ip4 basis frame ≢ rulings.Silent
 ip4-answers basis frame e silent =

@@ -4,7 +4,7 @@ use Rattle.std.specs.Prelude.{ℕ, ◌+◌, ◌-◌, ◌/◌, ◌%◌, ◌^◌, 
 use Rattle.std.specs.List.{list_any}
 use Rattle.std.specs.Int.{w16, w32, to_be_bytes}
 use Rattle.apf_coding.specs.declared.machine.Verdict.TheVariants.{Pass, Drop}
-use Rattle.data_counters.specs.declared.counter.Counter.TheVariants.{PassedDhcp, PassedIpv4, PassedIpv4Unicast, DroppedIpv4L2Broadcast, DroppedIpv4BroadcastAddr, DroppedIpv4BroadcastNet, DroppedIpv4Multicast, DroppedIpv4KeepaliveAck}
+use Rattle.data_counters.specs.declared.counter.Counter.TheVariants.{PassedDhcp, PassedIpv4, PassedIpv4Unicast, DroppedIpv4L2Broadcast, DroppedIpv4BroadcastAddr, DroppedIpv4BroadcastNet, DroppedIpv4Multicast, DroppedIpv4KeepaliveAck, DroppedIpv4NattKeepalive}
 use Rattle.frame_views.specs.Fields.{field, part}
 use Rattle.frame_views.specs.Packets.{header_length}
 use Rattle.policy_state.specs.declared.basis.Basis.{Basis}
@@ -85,6 +85,17 @@ abbrev pub keepalive_answers : Basis → List ℕ → Ruling
 keepalive_answers basis frame = when (list_any is_some basis.state.keepalives)
     (reading (protocol frame) (λ p. when (p == 6) (first_of (map (slot_answer frame) basis.state.keepalives))))
 
+-- ---- NAT keepalives over UDP (RFC 3948, section 2.3): one byte of data, 0xff, from port 4500 (section 2)
+
+abbrev pub natt_keepalives : List ℕ → Ruling
+natt_keepalives frame =
+    reading (protocol frame) (λ p. when (p == 17)
+    (reading (fragment frame) (λ f. when (bit_and f 0x1fff == 0)
+    (reading (field frame (14 + header_length frame) 2) (λ port. when (port == 4500)
+    (reading (field frame (18 + header_length frame) 2) (λ bytes. when (bytes == 9)
+    (reading (field frame (22 + header_length frame) 1) (λ first. when (first == 0xff)
+    (Says Drop DroppedIpv4NattKeepalive))))))))))
+
 -- ---- all other packets
 
 abbrev pub ip4_to_this_host : Basis → List ℕ → Ruling
@@ -98,6 +109,7 @@ ip4_lines basis frame = first_of (
     ∷ ip4_broadcast basis frame
     ∷ ip4_net_broadcast basis frame
     ∷ keepalive_answers basis frame
+    ∷ natt_keepalives frame
     ∷ ip4_to_this_host basis frame
     ∷ Says Pass PassedIpv4
     ∷ [])

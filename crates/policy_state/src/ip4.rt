@@ -2,7 +2,7 @@
 
 ghost use Rattle.std.specs.Prelude.{◌≡◌, map};
 ghost use Rattle.policy_state.specs.Asking.{first_of};
-ghost use Rattle.policy_state.specs.Ip4.{dhcp, ip4_multicast, ip4_broadcast, net_broadcast, ip4_net_broadcast, keepalive_answer, slot_answer, keepalive_answers, ip4_to_this_host, ip4_lines};
+ghost use Rattle.policy_state.specs.Ip4.{dhcp, ip4_multicast, ip4_broadcast, net_broadcast, ip4_net_broadcast, keepalive_answer, slot_answer, keepalive_answers, natt_keepalives, ip4_to_this_host, ip4_lines};
 ghost use Rattle.policy_state.specs.Policy.{ip4};
 
 use crate::link::BROADCAST;
@@ -170,6 +170,39 @@ fn keepalive_answers(basis: &Basis, frame: &[u8]) -> Ruling
     }
 }
 
+/// NAT keepalives over UDP (RFC 3948, section 2.3): 8 bytes of header and one of data, from port 4500.
+fn natt_keepalives(frame: &[u8]) -> Ruling
+    ensures { result ≡ natt_keepalives frame.now }
+{
+    let packet = Ip4::new(frame);
+    match packet.protocol() {
+        None => return Ruling::Missing,
+        Some(17) => {}
+        Some(_) => return Ruling::Silent,
+    }
+    match packet.fragment() {
+        None => return Ruling::Missing,
+        Some(fragment) if fragment & 0x1fff == 0 => {}
+        Some(_) => return Ruling::Silent,
+    }
+    let datagram = Udp::new(frame, packet.header_len());
+    match datagram.source_port() {
+        None => return Ruling::Missing,
+        Some(4500) => {}
+        Some(_) => return Ruling::Silent,
+    }
+    match datagram.length() {
+        None => return Ruling::Missing,
+        Some(9) => {}
+        Some(_) => return Ruling::Silent,
+    }
+    match datagram.first_byte() {
+        None => Ruling::Missing,
+        Some(0xff) => Ruling::Says(Verdict::Drop, Counter::DroppedIpv4NattKeepalive),
+        Some(_) => Ruling::Silent,
+    }
+}
+
 /// All other packets, where multicast is filtered.
 fn ip4_to_this_host(basis: &Basis, frame: &[u8]) -> Ruling
     ensures { result ≡ ip4_to_this_host basis.now frame.now }
@@ -202,6 +235,9 @@ fn ip4_lines(basis: &Basis, frame: &[u8]) -> Ruling
     }
     if answer == Ruling::Silent {
         answer = keepalive_answers(basis, frame);
+    }
+    if answer == Ruling::Silent {
+        answer = natt_keepalives(frame);
     }
     if answer == Ruling::Silent {
         answer = ip4_to_this_host(basis, frame);

@@ -17,7 +17,7 @@ pub fn questions_are_answered()
     ensures short { (basis : Basis) (age : ℕ) (frame : List ℕ) → policy basis age frame ≡ Short → length frame ≤ 14 }
 {}
 
-/// A counter tells the verdict: those of frames that pass are 2 to 12, and those of frames that are dropped 13 to 27.
+/// A counter tells the verdict: those of frames that pass are 2 to 12, and those of frames that are dropped 13 to 28.
 pub fn counters_tell_verdicts()
     ensures pass { (basis : Basis) (age : ℕ) (frame : List ℕ) (c : Counter) → policy basis age frame ≡ Says Pass c → (2 ≤ number_of c) × (number_of c ≤ 12) }
     ensures drop { (basis : Basis) (age : ℕ) (frame : List ℕ) (c : Counter) → policy basis age frame ≡ Says Drop c → (13 ≤ number_of c) × (number_of c ≤ counter_count) }
