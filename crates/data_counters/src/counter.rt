@@ -56,7 +56,7 @@ pub enum Counter {
     DroppedIpv4KeepaliveAck = 23,
     /// Router solicitations.
     DroppedIpv6RouterSolicitation = 24,
-    /// Neighbor advertisements to all nodes.
+    /// Neighbor advertisements to ff02::/120.
     DroppedIpv6MulticastNa = 25,
     /// IPv6 packets to a multicast address.
     DroppedIpv6Multicast = 26,

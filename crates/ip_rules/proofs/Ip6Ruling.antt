@@ -14,7 +14,7 @@ use Rattle.policy_state.specs.declared.basis.Basis.{Basis}
 use Rattle.policy_state.specs.declared.ruling.Ruling.{Ruling}
 use Rattle.policy_state.specs.declared.ruling.Ruling.TheVariants.{Says, Silent}
 use Rattle.policy_state.specs.Asking.{reading, when, otherwise}
-use Rattle.policy_state.specs.Ip6.{next_header, icmp_type, by_destination, all_nodes, ip6_header_lines}
+use Rattle.policy_state.specs.Ip6.{next_header, icmp_type, by_destination, link_groups, ip6_header_lines}
 use Rattle.policy_state.proofs.AskingLaws.{otherwise-silent, otherwise-when, reading-when}
 use Rattle.policy_state.proofs.FieldsSeen.{number_seen, bytes_seen}
 use Rattle.apf_asm.specs.Building.{to_end, load, jump_if, jump}
@@ -36,7 +36,7 @@ abbrev other_packet : Ruling
 other_packet = Says Pass PassedIpv6NonIcmp
 
 abbrev advertised_to : Option (List ℕ) → Ruling
-advertised_to there = reading there (λ d. cond (not (bytes_eq d all_nodes)) Silent advertisement)
+advertised_to there = reading there (λ d. cond (not (bytes_eq d link_groups)) Silent advertisement)
 
 -- a message of this type, to an address
 abbrev message_of : Option ℕ → Option (List ℕ) → Ruling
@@ -53,23 +53,23 @@ dozing_of next kind destination message = reading next (λ n. cond (not (eqb n 5
     (reading kind (λ k. cond (not (eqb k 128)) message (otherwise destination message))))
 
 abbrev ruling_by : Bool → Bool → List ℕ → Ruling
-ruling_by false doze frame = unfiltered_of (next_header frame) (message_of (icmp_type frame) (part frame 38 16))
-ruling_by true false frame = filtered_of (next_header frame) (by_destination frame) (message_of (icmp_type frame) (part frame 38 16))
-ruling_by true true frame = dozing_of (next_header frame) (icmp_type frame) (by_destination frame) (message_of (icmp_type frame) (part frame 38 16))
+ruling_by false doze frame = unfiltered_of (next_header frame) (message_of (icmp_type frame) (part frame 38 15))
+ruling_by true false frame = filtered_of (next_header frame) (by_destination frame) (message_of (icmp_type frame) (part frame 38 15))
+ruling_by true true frame = dozing_of (next_header frame) (icmp_type frame) (by_destination frame) (message_of (icmp_type frame) (part frame 38 15))
 
 -- ---- are those of the table
 
 one_message : (a b : Bool) (there : Option (List ℕ)) → cond a solicitation (cond (not b) Silent (advertised_to there))
-    ≡ otherwise (when a solicitation) (when b (reading there (λ d. when (bytes_eq d all_nodes) advertisement)))
+    ≡ otherwise (when a solicitation) (when b (reading there (λ d. when (bytes_eq d link_groups) advertisement)))
 one_message true b there = refl
-one_message false true there = reading-when there (λ d. bytes_eq d all_nodes) advertisement
+one_message false true there = reading-when there (λ d. bytes_eq d link_groups) advertisement
 one_message false false there = refl
 
 message_same : (kind : Option ℕ) (there : Option (List ℕ)) → message_of kind there
-    ≡ otherwise (reading kind (λ k. when (eqb k 133) solicitation)) (otherwise (reading kind (λ k. when (eqb k 136) (reading there (λ d. when (bytes_eq d all_nodes) advertisement)))) Silent)
+    ≡ otherwise (reading kind (λ k. when (eqb k 133) solicitation)) (otherwise (reading kind (λ k. when (eqb k 136) (reading there (λ d. when (bytes_eq d link_groups) advertisement)))) Silent)
 message_same None there = refl
 message_same (Some k) there = one_message (eqb k 133) (eqb k 136) there
-    ∙ ap (λ (a : Ruling). otherwise (when (eqb k 133) solicitation) a) (sym (otherwise-silent (when (eqb k 136) (reading there (λ d. when (bytes_eq d all_nodes) advertisement)))))
+    ∙ ap (λ (a : Ruling). otherwise (when (eqb k 133) solicitation) a) (sym (otherwise-silent (when (eqb k 136) (reading there (λ d. when (bytes_eq d link_groups) advertisement)))))
 
 -- the destination always answers
 settled : (b : Bool) (later : Ruling) → otherwise (cond b (Says Drop DroppedIpv6Multicast) (Says Pass PassedIpv6UnicastNonIcmp)) later ≡ cond b (Says Drop DroppedIpv6Multicast) (Says Pass PassedIpv6UnicastNonIcmp)
@@ -124,15 +124,15 @@ lines_by multicast doze next kind first message =
     (otherwise (reading next (λ n. when (not (eqb n 58)) other_packet)) message)
 
 by_same : (multicast doze : Bool) (frame : List ℕ)
-    → ruling_by multicast doze frame ≡ lines_by multicast doze (next_header frame) (icmp_type frame) (field frame 38 1) (message_of (icmp_type frame) (part frame 38 16))
-by_same false doze frame = unfiltered_same (next_header frame) (message_of (icmp_type frame) (part frame 38 16))
-by_same true false frame = filtered_same (next_header frame) (field frame 38 1) (message_of (icmp_type frame) (part frame 38 16))
-by_same true true frame = dozing_same (next_header frame) (icmp_type frame) (field frame 38 1) (message_of (icmp_type frame) (part frame 38 16))
+    → ruling_by multicast doze frame ≡ lines_by multicast doze (next_header frame) (icmp_type frame) (field frame 38 1) (message_of (icmp_type frame) (part frame 38 15))
+by_same false doze frame = unfiltered_same (next_header frame) (message_of (icmp_type frame) (part frame 38 15))
+by_same true false frame = filtered_same (next_header frame) (field frame 38 1) (message_of (icmp_type frame) (part frame 38 15))
+by_same true true frame = dozing_same (next_header frame) (icmp_type frame) (field frame 38 1) (message_of (icmp_type frame) (part frame 38 15))
 
 lines_same : (basis : Basis) (frame : List ℕ) → ruling_by basis.state.multicast basis.state.doze frame ≡ ip6_header_lines basis frame
 lines_same basis frame =
     by_same basis.state.multicast basis.state.doze frame
-    ∙ ap (λ (message : Ruling). lines_by basis.state.multicast basis.state.doze (next_header frame) (icmp_type frame) (field frame 38 1) message) (message_same (icmp_type frame) (part frame 38 16))
+    ∙ ap (λ (message : Ruling). lines_by basis.state.multicast basis.state.doze (next_header frame) (icmp_type frame) (field frame 38 1) message) (message_same (icmp_type frame) (part frame 38 15))
 
 -- ---- the items come to them
 
@@ -151,22 +151,22 @@ module _ (n : ℕ) (frame : List ℕ) (m : State) where
       (counts rulings n frame m b _ PassedIpv6UnicastNonIcmp _ _
       (answers rulings n frame m b Pass PassedIpv6UnicastNonIcmp _ _ (done rulings n frame m b _)))))
 
-  message_yields : (over r0 r1 : ℕ) → 2 ≤ over → Yields rulings n frame m r0 r1 (message_of (icmp_type frame) (part frame 38 16)) (message_items over)
+  message_yields : (over r0 r1 : ℕ) → 2 ≤ over → Yields rulings n frame m r0 r1 (message_of (icmp_type frame) (part frame 38 15)) (message_items over)
   unfolding stands
   message_yields over r0 r1 le =
       reads_byte rulings n frame m r0 r1 1 54 _ _ (icmp_type frame) (number_seen frame 54 1) (λ k.
       counts rulings n frame m k r1 DroppedIpv6RouterSolicitation _ _
       (answers_if rulings n frame m Jeq 133 k Drop DroppedIpv6RouterSolicitation _ _ refl
-      (leaves_if rulings n frame m Jne 136 over k _ (advertised_to (part frame 38 16)) Silent (advertisement_items over) [] refl refl
+      (leaves_if rulings n frame m Jne 136 over k _ (advertised_to (part frame 38 15)) Silent (advertisement_items over) [] refl refl
       (places rulings n frame m k _ 1 38 _ _ (lit< tt)
       (counts rulings n frame m 38 _ DroppedIpv6MulticastNa _ _
-      (leaves_unless rulings n frame m 38 _ over all_nodes advertisement Silent (jump (to_end Drop) ∷ []) [] (part frame 38 16) (bytes_seen frame 38 16) (lit< tt) refl
+      (leaves_unless rulings n frame m 38 _ over link_groups advertisement Silent (jump (to_end Drop) ∷ []) [] (part frame 38 15) (bytes_seen frame 38 15) (lit< tt) refl
       (answers rulings n frame m 38 Drop DroppedIpv6MulticastNa Silent (items.Label over ∷ []) (labelled rulings n frame m 38 _ over Silent [] le (done rulings n frame m 38 _)))
       (λ q0 q1. done rulings n frame m q0 q1))))
       (λ q0 q1. done rulings n frame m q0 q1))))
 
   unfiltered_yields : (over r0 r1 : ℕ) → 2 ≤ over
-      → Yields rulings n frame m r0 r1 (unfiltered_of (next_header frame) (message_of (icmp_type frame) (part frame 38 16))) (unfiltered_items over)
+      → Yields rulings n frame m r0 r1 (unfiltered_of (next_header frame) (message_of (icmp_type frame) (part frame 38 15))) (unfiltered_items over)
   unfiltered_yields over r0 r1 le =
       reads_byte rulings n frame m r0 r1 1 20 _ _ (next_header frame) (number_seen frame 20 1) (λ h.
       counts rulings n frame m h r1 PassedIpv6NonIcmp _ _
@@ -174,26 +174,26 @@ module _ (n : ℕ) (frame : List ℕ) (m : State) where
       (message_yields over h _ le)))
 
   filtered_yields : (message over r0 r1 : ℕ) → 2 ≤ message → 2 ≤ over
-      → Yields rulings n frame m r0 r1 (filtered_of (next_header frame) (by_destination frame) (message_of (icmp_type frame) (part frame 38 16))) (filtered_items message over)
+      → Yields rulings n frame m r0 r1 (filtered_of (next_header frame) (by_destination frame) (message_of (icmp_type frame) (part frame 38 15))) (filtered_items message over)
   unfolding stands
   filtered_yields message over r0 r1 here le =
       reads_byte rulings n frame m r0 r1 1 20 _ _ (next_header frame) (number_seen frame 20 1) (λ h.
-      skips_if rulings n frame m Jeq 58 message h r1 (by_destination frame) (message_of (icmp_type frame) (part frame 38 16)) destination_items (message_items over) refl here refl
+      skips_if rulings n frame m Jeq 58 message h r1 (by_destination frame) (message_of (icmp_type frame) (part frame 38 15)) destination_items (message_items over) refl here refl
       (destination_yields h r1)
       (λ q0 q1. message_yields over q0 q1 le))
 
   dozing_yields : (destination message over r0 r1 : ℕ) → eqb destination message ≡ false → 2 ≤ destination → 2 ≤ message → 2 ≤ over
-      → Yields rulings n frame m r0 r1 (dozing_of (next_header frame) (icmp_type frame) (by_destination frame) (message_of (icmp_type frame) (part frame 38 16))) (dozing_items destination message over)
+      → Yields rulings n frame m r0 r1 (dozing_of (next_header frame) (icmp_type frame) (by_destination frame) (message_of (icmp_type frame) (part frame 38 15))) (dozing_items destination message over)
   unfolding stands
   dozing_yields destination message over r0 r1 apart there here le =
       reads_byte rulings n frame m r0 r1 1 20 _ _ (next_header frame) (number_seen frame 20 1) (λ h.
       leaves_if rulings n frame m Jne 58 destination h r1 _ _ (load Ldb 54 ∷ jump_if Jne 128 (targets.Label message) ∷ []) (destination_items ++ (items.Label message ∷ message_items over)) refl refl
       (reads_byte rulings n frame m h r1 1 54 _ _ (icmp_type frame) (number_seen frame 54 1) (λ k.
-      skips_if rulings n frame m Jne 128 message k r1 (by_destination frame) (message_of (icmp_type frame) (part frame 38 16)) (items.Label destination ∷ destination_items) (message_items over) refl here (or_false (eqb destination message) apart)
+      skips_if rulings n frame m Jne 128 message k r1 (by_destination frame) (message_of (icmp_type frame) (part frame 38 15)) (items.Label destination ∷ destination_items) (message_items over) refl here (or_false (eqb destination message) apart)
       (labelled rulings n frame m k r1 destination _ _ there (destination_yields k r1))
       (λ q0 q1. message_yields over q0 q1 le)))
       (λ q0 q1.
-      then_on rulings n frame m q0 q1 (by_destination frame) (message_of (icmp_type frame) (part frame 38 16)) destination_items (items.Label message ∷ message_items over)
+      then_on rulings n frame m q0 q1 (by_destination frame) (message_of (icmp_type frame) (part frame 38 15)) destination_items (items.Label message ∷ message_items over)
       (destination_yields q0 q1)
       (λ p0 p1. labelled rulings n frame m p0 p1 message _ _ here (message_yields over p0 p1 le))))
 

@@ -8,7 +8,7 @@ use Rattle.apf_asm.specs.Layout.{wide_length}
 use Rattle.data_counters.specs.declared.counter.Counter.TheVariants.{PassedIpv6NonIcmp, PassedIpv6UnicastNonIcmp, DroppedIpv6RouterSolicitation, DroppedIpv6MulticastNa, DroppedIpv6Multicast}
 use Rattle.data_counters.specs.Counters.{number_of}
 use Rattle.policy_state.specs.declared.basis.Basis.{Basis}
-use Rattle.policy_state.specs.Ip6.{all_nodes}
+use Rattle.policy_state.specs.Ip6.{link_groups}
 use Rattle.apf_asm.specs.Building.{to_end, load, jump_if, jump}
 use Rattle.apf_asm.specs.Fragment.{AreFresh, IsFragment, labels}
 use Rattle.apf_asm.proofs.Forms.{IsSound, stands-here, bytes_fit, sound-nil, sound-append, sound-byte, sound-if_end, sound-if_label, sound-jump_end, sound-unless_label, sound-label, sound-count}
@@ -26,7 +26,7 @@ sound-message over =
     sound-byte Ldb 0 54 _ refl (lit< tt) (lit< tt) (sound-count (number_of DroppedIpv6RouterSolicitation) _ (has_word DroppedIpv6RouterSolicitation) (sound-if_end Jeq 133 Drop _ refl (lit< tt)
     (sound-if_label Jne 136 over (advertisement_items over ++ (items.Label over ∷ [])) refl (lit< tt) (stands-here over (advertisement_items over) [])
     (sound-byte Li 0 38 _ refl (lit< tt) (lit< tt) (sound-count (number_of DroppedIpv6MulticastNa) _ (has_word DroppedIpv6MulticastNa)
-    (sound-unless_label all_nodes over _ (lit< tt) (lit≤ tt) (bytes_fit all_nodes refl) (stands-here over (jump (to_end Drop) ∷ []) [])
+    (sound-unless_label link_groups over _ (lit< tt) (lit≤ tt) (bytes_fit link_groups refl) (stands-here over (jump (to_end Drop) ∷ []) [])
     (sound-jump_end Drop _ (sound-label over [] sound-nil))))))))
 
 sound-filtered : (message over : ℕ) → IsSound (filtered_items message over)

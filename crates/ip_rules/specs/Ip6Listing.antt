@@ -8,7 +8,7 @@ use Rattle.apf_asm.specs.declared.item.Target.TheVariants as targets
 use Rattle.data_counters.specs.declared.counter.Counter.TheVariants.{PassedIpv6NonIcmp, PassedIpv6UnicastNonIcmp, DroppedIpv6RouterSolicitation, DroppedIpv6MulticastNa, DroppedIpv6Multicast}
 use Rattle.data_counters.specs.Counters.{number_of}
 use Rattle.policy_state.specs.declared.basis.Basis.{Basis}
-use Rattle.policy_state.specs.Ip6.{all_nodes}
+use Rattle.policy_state.specs.Ip6.{link_groups}
 use Rattle.apf_asm.specs.Building.{to_end, load, place, count, jump_if, jump, jump_unless}
 
 -- whether a packet is multicast
@@ -21,7 +21,7 @@ destination_items =
 -- to whom a neighbor advertisement goes
 abbrev pub advertisement_items : ℕ → List Item
 advertisement_items over =
-    place 38 ∷ count (number_of DroppedIpv6MulticastNa) ∷ jump_unless all_nodes (targets.Label over) ∷ jump (to_end Drop)
+    place 38 ∷ count (number_of DroppedIpv6MulticastNa) ∷ jump_unless link_groups (targets.Label over) ∷ jump (to_end Drop)
     ∷ []
 
 -- ICMPv6 messages; those that aren't answered go over what is asked of advertisements

@@ -15,8 +15,8 @@ use data_counters::Counter;
 use policy_state::Basis;
 use std::alloc::Global;
 
-/// The address of all nodes of a link, ff02::1 (RFC 4291, section 2.7.1).
-const ALL_NODES: [u8; 16] = [0xff, 0x02, 0, 0, 0, 0, 0, 0, 0, 0, 0, 0, 0, 0, 0, 1];
+/// ff02::/120, the groups of a link whose number has one byte, as all nodes, ff02::1 (RFC 4291, section 2.7.1).
+const LINK_GROUPS: [u8; 15] = [0xff, 0x02, 0, 0, 0, 0, 0, 0, 0, 0, 0, 0, 0, 0, 0];
 
 /// The next header of an ICMPv6 message (RFC 4443, section 1).
 const ICMP6: u32 = 58;
@@ -50,7 +50,7 @@ fn add_message(alloc: Global, over: u32, out: &mut List<Item>) -> Result<(), Out
     ensures ok { OnOk result (out.new ≡ out.old ++ message_items over) }
     ensures err { OnErr result (out.new ≡ out.old) }
 {
-    let other = jump_unless(alloc, &ALL_NODES, Target::Label(over))?;
+    let other = jump_unless(alloc, &LINK_GROUPS, Target::Label(over))?;
     out.append(List::of(
         alloc,
         [

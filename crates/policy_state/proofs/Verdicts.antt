@@ -22,7 +22,7 @@ use Rattle.ra_records.specs.Advert.{same}
 use Rattle.std.specs.List.{list_all, list_any}
 use Rattle.policy_state.specs.Records.{lasts, advertised_again}
 use Rattle.policy_state.specs.Policy.{is_denied, frames_802_3, denied_types, link, for_other_addresses, unknown_operations, replies_of_no_host, unicast_replies, arp_opening, arp_operation, arp_sender, arp_target, gratuitous_arp, arp_for_other_hosts, arp, ip4, ip6, others, questions, arp_lines}
-use Rattle.policy_state.specs.Ip6.{next_header, icmp_type, by_destination, echo_requests, ip6_multicast, ip6_other_than_icmp, router_solicitations, all_nodes, advertisements_to_all_nodes, ip6_header_lines}
+use Rattle.policy_state.specs.Ip6.{next_header, icmp_type, by_destination, echo_requests, ip6_multicast, ip6_other_than_icmp, router_solicitations, link_groups, advertisements_to_link_groups, ip6_header_lines}
 use Rattle.policy_state.specs.Whole.{Short, Says, fate_of, policy}
 
 -- ---- a counter of a verdict
@@ -188,9 +188,9 @@ told_other_than_icmp frame = told_reading (next_header frame) _ (λ n. told_when
 told_solicitations : (frame : List ℕ) → IsTold (router_solicitations frame)
 told_solicitations frame = told_reading (icmp_type frame) _ (λ kind. told_when (eqb kind 133) _ (told_says Drop DroppedIpv6RouterSolicitation (record { least = lit≤ tt; most = lit≤ tt })))
 
-told_advertisements : (frame : List ℕ) → IsTold (advertisements_to_all_nodes frame)
+told_advertisements : (frame : List ℕ) → IsTold (advertisements_to_link_groups frame)
 told_advertisements frame = told_reading (icmp_type frame) _ (λ kind. told_when (eqb kind 136) _
-    (told_reading (part frame 38 16) _ (λ d. told_when (bytes_eq d all_nodes) _ (told_says Drop DroppedIpv6MulticastNa (record { least = lit≤ tt; most = lit≤ tt })))))
+    (told_reading (part frame 38 15) _ (λ d. told_when (bytes_eq d link_groups) _ (told_says Drop DroppedIpv6MulticastNa (record { least = lit≤ tt; most = lit≤ tt })))))
 
 told_header_lines : (basis : Basis) (frame : List ℕ) → IsTold (ip6_header_lines basis frame)
 told_header_lines basis frame =

@@ -1,6 +1,6 @@
 -- The lines of the question on IPv6, each a definition that is named for the frames that it answers. Headers are those
 -- of RFC 8200 (IPv6) and RFC 4861 (neighbor discovery).
-use Rattle.std.specs.Prelude.{ℕ, ◌==◌, not, if◌then◌else◌, List, [], ◌∷◌, ◌++◌, replicate, bytes_eq, Option}
+use Rattle.std.specs.Prelude.{ℕ, ◌==◌, not, if◌then◌else◌, List, [], ◌∷◌, replicate, bytes_eq, Option}
 use Rattle.apf_coding.specs.declared.machine.Verdict.TheVariants.{Pass, Drop}
 use Rattle.data_counters.specs.declared.counter.Counter.TheVariants.{PassedIpv6NonIcmp, PassedIpv6UnicastNonIcmp, PassedIpv6Icmp, DroppedIpv6RouterSolicitation, DroppedIpv6MulticastNa, DroppedIpv6Multicast}
 use Rattle.frame_views.specs.Fields.{field, part}
@@ -42,13 +42,13 @@ ip6_other_than_icmp frame = reading (next_header frame) (λ n. when (not (n == 5
 abbrev pub router_solicitations : List ℕ → Ruling
 router_solicitations frame = reading (icmp_type frame) (λ kind. when (kind == 133) (Says Drop DroppedIpv6RouterSolicitation))
 
--- ff02::1
-abbrev pub all_nodes : List ℕ
-all_nodes = 0xff ∷ 0x02 ∷ (replicate 13 0 ++ 1 ∷ [])
+-- ff02::/120, the groups of a link whose number has one byte: all nodes, ff02::1, and others (RFC 4291, section 2.7.1)
+abbrev pub link_groups : List ℕ
+link_groups = 0xff ∷ 0x02 ∷ replicate 13 0
 
-abbrev pub advertisements_to_all_nodes : List ℕ → Ruling
-advertisements_to_all_nodes frame = reading (icmp_type frame) (λ kind. when (kind == 136)
-    (reading (part frame 38 16) (λ destination. when (bytes_eq destination all_nodes) (Says Drop DroppedIpv6MulticastNa))))
+abbrev pub advertisements_to_link_groups : List ℕ → Ruling
+advertisements_to_link_groups frame = reading (icmp_type frame) (λ kind. when (kind == 136)
+    (reading (part frame 38 15) (λ group. when (bytes_eq group link_groups) (Says Drop DroppedIpv6MulticastNa))))
 
 -- ---- the lines in order
 
@@ -58,7 +58,7 @@ ip6_header_lines basis frame = first_of (
     ip6_multicast basis frame
     ∷ ip6_other_than_icmp frame
     ∷ router_solicitations frame
-    ∷ advertisements_to_all_nodes frame
+    ∷ advertisements_to_link_groups frame
     ∷ [])
 
 -- every other ICMPv6 message

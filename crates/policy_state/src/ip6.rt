@@ -3,7 +3,7 @@
 ghost use Rattle.std.specs.Prelude.{◌≡◌, ◌∷◌, []};
 ghost use Rattle.policy_state.specs.Asking.{first_of};
 ghost use Rattle.policy_state.specs.Records.{repeated_advertisements};
-ghost use Rattle.policy_state.specs.Ip6.{by_destination, echo_requests, ip6_multicast, ip6_other_than_icmp, router_solicitations, advertisements_to_all_nodes, ip6_header_lines, other_icmp6, ip6_lines};
+ghost use Rattle.policy_state.specs.Ip6.{by_destination, echo_requests, ip6_multicast, ip6_other_than_icmp, router_solicitations, advertisements_to_link_groups, ip6_header_lines, other_icmp6, ip6_lines};
 ghost use Rattle.policy_state.specs.Policy.{ip6};
 
 use crate::Basis;
@@ -11,7 +11,7 @@ use crate::records::repeated_advertisements;
 use crate::ruling::Ruling;
 use apf_coding::Verdict;
 use data_counters::Counter;
-use frame_views::{Ether, Icmp6, Ip6};
+use frame_views::{Ether, Icmp6, Ip6, part};
 
 /// The next header of an ICMPv6 message (RFC 4443, section 1).
 const ICMP6: u32 = 58;
@@ -23,8 +23,8 @@ const ROUTER_SOLICITATION: u32 = 133;
 
 const NEIGHBOR_ADVERTISEMENT: u32 = 136;
 
-/// The address of all nodes of a link, ff02::1 (RFC 4291, section 2.7.1).
-const ALL_NODES: [u8; 16] = [0xff, 0x02, 0, 0, 0, 0, 0, 0, 0, 0, 0, 0, 0, 0, 0, 1];
+/// ff02::/120, the groups of a link whose number has one byte, as all nodes, ff02::1 (RFC 4291, section 2.7.1).
+const LINK_GROUPS: [u8; 15] = [0xff, 0x02, 0, 0, 0, 0, 0, 0, 0, 0, 0, 0, 0, 0, 0];
 
 /// Whether a packet is multicast.
 fn by_destination(frame: &[u8]) -> Ruling
@@ -89,9 +89,9 @@ fn router_solicitations(frame: &[u8]) -> Ruling
     }
 }
 
-/// Neighbor advertisements to all nodes.
-fn advertisements_to_all_nodes(frame: &[u8]) -> Ruling
-    ensures { result ≡ advertisements_to_all_nodes frame.now }
+/// Neighbor advertisements to such a group.
+fn advertisements_to_link_groups(frame: &[u8]) -> Ruling
+    ensures { result ≡ advertisements_to_link_groups frame.now }
 {
     let Some(kind) = Icmp6::new(frame).kind() else {
         return Ruling::Missing;
@@ -99,9 +99,9 @@ fn advertisements_to_all_nodes(frame: &[u8]) -> Ruling
     if kind != NEIGHBOR_ADVERTISEMENT {
         return Ruling::Silent;
     }
-    match Ip6::new(frame).destination() {
+    match part(frame, 38, 15) {
         None => Ruling::Missing,
-        Some(destination) if destination == ALL_NODES.as_slice() => {
+        Some(group) if group == LINK_GROUPS.as_slice() => {
             Ruling::Says(Verdict::Drop, Counter::DroppedIpv6MulticastNa)
         }
         Some(_) => Ruling::Silent,
@@ -120,7 +120,7 @@ fn ip6_header_lines(basis: &Basis, frame: &[u8]) -> Ruling
         answer = router_solicitations(frame);
     }
     if answer == Ruling::Silent {
-        answer = advertisements_to_all_nodes(frame);
+        answer = advertisements_to_link_groups(frame);
     }
     answer
 }
