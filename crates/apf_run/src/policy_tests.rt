@@ -14,7 +14,7 @@ use std::process::Abort;
 use std::test::Fail;
 
 /// Frames by their fields, in hexadecimal. Each is also cut at every length.
-const FRAMES: [&str; 15] = [
+const FRAMES: [&str; 16] = [
     // lengths and ethertypes: the greatest length, the least ethertype, one that is denied, one that is unknown
     "020000000001 020000000099 05ff 00",
     "020000000001 020000000099 0600 00",
@@ -26,8 +26,10 @@ const FRAMES: [&str; 15] = [
     "ffffffffffff 020000000099 0806 0001 0800 06 04 0002 020000000099 00000000 020000000001 c0a80106",
     "ffffffffffff 020000000099 0806 0001 0800 06 04 0002 020000000099 c0a80109 020000000001 00000000",
     "ffffffffffff 020000000099 0806 0001 0800 06 04 0003 020000000099 c0a80109 020000000001 c0a80105",
-    // IPv4: UDP to the net's broadcast, an answer to the keepalive, a multicast packet with a header of 24 bytes
+    // IPv4: UDP to the net's broadcast, a NAT keepalive, an answer to the keepalive, a multicast packet with a header of
+    // 24 bytes
     "ffffffffffff 020000000099 0800 4500001c 00000000 40110000 c0a80109 c0a801ff 1388 1389 0008 0000",
+    "020000000001 020000000099 0800 4500001d 00000000 40110000 0a000009 0a000002 1194 1194 0009 0000 ff",
     "020000000001 020000000099 0800 45000028 00000000 40060000 0a000009 0a000002 01bb9c40 000007d0 000003e9 50100000 00000000",
     "01005e0000fb 020000000099 0800 46000020 00000000 01110000 c0a80109 e00000fb 94040000 14e9 14e9 0008 0000",
     // ICMPv6: an echo request and an advertisement to all nodes, a router solicitation

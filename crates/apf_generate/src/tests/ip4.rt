@@ -89,6 +89,34 @@ const DHCP_24: &[Bytes] = &[(14, &[0x46]), (23, &[17]), (30, &[255, 255, 255, 25
 #[rattlefmt::skip]
 const DHCP_60: &[Bytes] = &[(14, &[0x4f]), (23, &[17]), (30, &[255, 255, 255, 255]), (76, &[0, 68]), (110, &MAC)];
 
+/// A NAT keepalive from the port 4500 to the port 4500, behind a header of 20 bytes.
+#[rattlefmt::skip]
+const NATT: &[Bytes] = &[
+    (14, &[0x45]),             // version 4, a header of 5 words
+    (23, &[17]),               // protocol: UDP
+    (30, &[10, 0, 0, 2]),      // destination
+    (34, &KEEPALIVE),
+];
+
+#[rattlefmt::skip]
+const KEEPALIVE: [u8; 9] = [
+    0x11, 0x94,                // source port: 4500
+    0x11, 0x94,                // destination port: 4500
+    0x00, 0x09,                // length: 9
+    0x00, 0x00,                // checksum
+    0xff,
+];
+
+/// The same behind headers of 0, 24 and 60 bytes. Without a header the checksum is the fragment's word.
+#[rattlefmt::skip]
+const NATT_0: &[Bytes] = &[(14, &KEEPALIVE), (23, &[17])];
+
+#[rattlefmt::skip]
+const NATT_24: &[Bytes] = &[(14, &[0x46]), (23, &[17]), (38, &KEEPALIVE)];
+
+#[rattlefmt::skip]
+const NATT_60: &[Bytes] = &[(14, &[0x4f]), (23, &[17]), (74, &KEEPALIVE)];
+
 /// Whether multicast is filtered, and the host's address with its prefix.
 type Setting = (bool, Option<Address>);
 
@@ -186,7 +214,7 @@ type Row = (
 );
 
 #[rattlefmt::skip]
-static ROWS: [Row; 45] = [
+static ROWS: [Row; 65] = [
     (ON, NONE, DHCP_24, &[], Pass, PassedDhcp, 80),
     (ON, NONE, DHCP_24, &[(21, &[1])], Drop, DroppedIpv4BroadcastAddr, 34),
     (ON, NONE, DHCP_24, &[(21, &[1]), (30, &[224, 0, 0, 1])], Drop, DroppedIpv4Multicast, 31),
@@ -195,20 +223,20 @@ static ROWS: [Row; 45] = [
     (ON, NONE, DHCP_24, &[(79, &[2])], Drop, DroppedIpv4BroadcastAddr, 80),
     (ON, NONE, DHCP_24, &[(41, &[67])], Drop, DroppedIpv4BroadcastAddr, 42),
     (ON, NONE, DHCP_24, &[(23, &[6])], Drop, DroppedIpv4BroadcastAddr, 34),
-    (OFF, NONE, DHCP_24, &[], Pass, PassedIpv4, 15),
+    (OFF, NONE, DHCP_24, &[], Pass, PassedIpv4, 40),
     (ON, NONE, DHCP_0, &[], Pass, PassedDhcp, 56),
     (ON, NONE, DHCP_4, &[], Drop, DroppedIpv4BroadcastAddr, 34),
     (ON, NONE, DHCP_20, &[], Pass, PassedDhcp, 76),
     (ON, NONE, DHCP_60, &[], Pass, PassedDhcp, 116),
     (ON, NONE, DATAGRAM, &[], Pass, PassedIpv4Unicast, 38),
     (ON, NONE, DATAGRAM, &[(0, &[255, 255, 255, 255, 255, 255])], Drop, DroppedIpv4L2Broadcast, 38),
-    (OFF, NONE, DATAGRAM, &[(0, &[255, 255, 255, 255, 255, 255])], Pass, PassedIpv4, 15),
+    (OFF, NONE, DATAGRAM, &[(0, &[255, 255, 255, 255, 255, 255])], Pass, PassedIpv4, 36),
     (ON, NONE, DATAGRAM, &[(30, &[0xef])], Drop, DroppedIpv4Multicast, 38),
     (ON, NONE, DATAGRAM, &[(30, &[0xf0])], Pass, PassedIpv4Unicast, 38),
     (ON_30, NONE, DATAGRAM, &[(33, &[7])], Drop, DroppedIpv4BroadcastNet, 38),
     (ON_31, NONE, DATAGRAM, &[(33, &[5])], Pass, PassedIpv4Unicast, 38),
     (ON_32, NONE, DATAGRAM, &[(33, &[5])], Pass, PassedIpv4Unicast, 38),
-    (OFF_30, NONE, DATAGRAM, &[(33, &[7])], Pass, PassedIpv4, 15),
+    (OFF_30, NONE, DATAGRAM, &[(33, &[7])], Pass, PassedIpv4, 36),
     (ON_24, NONE, DATAGRAM, &[(33, &[7])], Pass, PassedIpv4Unicast, 38),
     (ON_24, NONE, DATAGRAM, &[(33, &[255])], Drop, DroppedIpv4BroadcastNet, 38),
     (ON_1, NONE, DATAGRAM, &[(30, &[127, 255, 255, 255])], Drop, DroppedIpv4BroadcastNet, 38),
@@ -220,8 +248,8 @@ static ROWS: [Row; 45] = [
     (OFF, ONE, SEGMENT, &[(46, &[0x54])], Pass, PassedIpv4, 47),
     (OFF, ONE, SEGMENT, &[(29, &[8])], Pass, PassedIpv4, 34),
     (OFF, ONE, SEGMENT, &[(45, &[0xe8])], Pass, PassedIpv4, 47),
-    (OFF, ONE, SEGMENT, &[(23, &[17])], Pass, PassedIpv4, 24),
-    (OFF, NONE, SEGMENT, &[], Pass, PassedIpv4, 15),
+    (OFF, ONE, SEGMENT, &[(23, &[17])], Pass, PassedIpv4, 36),
+    (OFF, NONE, SEGMENT, &[], Pass, PassedIpv4, 24),
     (OFF, &[LAST], SEGMENT, &[(42, &[0, 0, 0, 0])], Drop, DroppedIpv4KeepaliveAck, 47),
     (OFF, &[LAST], SEGMENT, &[(42, &[255, 255, 255, 255])], Pass, PassedIpv4, 47),
     (OFF, &[BARE], SEGMENT_0, &[], Drop, DroppedIpv4KeepaliveAck, 34),
@@ -232,6 +260,26 @@ static ROWS: [Row; 45] = [
     (OFF, EIGHT, SEGMENT, &[(35, &[22])], Pass, PassedIpv4, 47),
     (ON, ONE, SEGMENT, &[], Drop, DroppedIpv4KeepaliveAck, 47),
     (ON, ONE, SEGMENT, &[(17, &[0x29])], Pass, PassedIpv4Unicast, 47),
+    (OFF, NONE, NATT, &[], Drop, DroppedIpv4NattKeepalive, 43),
+    (ON, NONE, NATT, &[], Drop, DroppedIpv4NattKeepalive, 43),
+    (OFF, ONE, NATT, &[], Drop, DroppedIpv4NattKeepalive, 43),
+    (ON_24, EIGHT, NATT, &[], Drop, DroppedIpv4NattKeepalive, 43),
+    (OFF, NONE, NATT_0, &[], Drop, DroppedIpv4NattKeepalive, 24),
+    (OFF, NONE, NATT_24, &[], Drop, DroppedIpv4NattKeepalive, 47),
+    (OFF, NONE, NATT_60, &[], Drop, DroppedIpv4NattKeepalive, 83),
+    (OFF, NONE, NATT, &[(23, &[6])], Pass, PassedIpv4, 24),
+    (OFF, NONE, NATT, &[(21, &[1])], Pass, PassedIpv4, 24),
+    (OFF, NONE, NATT, &[(20, &[0xe0])], Drop, DroppedIpv4NattKeepalive, 43),
+    (OFF, NONE, NATT, &[(35, &[0x93])], Pass, PassedIpv4, 36),
+    (OFF, NONE, NATT, &[(35, &[0x95])], Pass, PassedIpv4, 36),
+    (OFF, NONE, NATT, &[(37, &[0x93])], Drop, DroppedIpv4NattKeepalive, 43),
+    (OFF, NONE, NATT, &[(37, &[0x95])], Drop, DroppedIpv4NattKeepalive, 43),
+    (OFF, NONE, NATT, &[(39, &[8])], Pass, PassedIpv4, 40),
+    (OFF, NONE, NATT, &[(39, &[10])], Pass, PassedIpv4, 40),
+    (OFF, NONE, NATT, &[(42, &[0xfe])], Pass, PassedIpv4, 43),
+    (ON, NONE, NATT, &[(42, &[0xfe])], Pass, PassedIpv4Unicast, 43),
+    (ON, NONE, NATT, &[(30, &[224])], Drop, DroppedIpv4Multicast, 38),
+    (ON_24, NONE, NATT, &[(30, &[192, 168, 1, 255])], Drop, DroppedIpv4BroadcastNet, 38),
 ];
 
 /// A packet's bytes. What doesn't fit is left out.

@@ -28,16 +28,29 @@ const PACKET: [u8; 56] = [
     128, 0,                             // type: echo request, code
 ];
 
-/// The first two bytes of a destination and its last one: ff02::1, ff02::2, ff02::fb and fe80::5.
-type Destination = ([u8; 2], u8);
+/// The first two bytes of a destination and its last six.
+type Destination = ([u8; 2], [u8; 6]);
 
-const ALL_NODES: Destination = ([0xff, 0x02], 0x01);
+/// ff02::1
+const ALL_NODES: Destination = ([0xff, 0x02], [0, 0, 0, 0, 0, 0x01]);
 
-const ALL_ROUTERS: Destination = ([0xff, 0x02], 0x02);
+/// ff02::2
+const ALL_ROUTERS: Destination = ([0xff, 0x02], [0, 0, 0, 0, 0, 0x02]);
 
-const MDNS: Destination = ([0xff, 0x02], 0xfb);
+/// ff02::fb
+const MDNS: Destination = ([0xff, 0x02], [0, 0, 0, 0, 0, 0xfb]);
 
-const HOST: Destination = ([0xfe, 0x80], 0x05);
+/// ff02::1:ff00:5
+const SOLICITED: Destination = ([0xff, 0x02], [0, 0x01, 0xff, 0, 0, 0x05]);
+
+/// ff02::1:0
+const GREATER: Destination = ([0xff, 0x02], [0, 0, 0, 0x01, 0, 0]);
+
+/// ff05::1
+const SITE: Destination = ([0xff, 0x05], [0, 0, 0, 0, 0, 0x01]);
+
+/// fe80::5
+const HOST: Destination = ([0xfe, 0x80], [0, 0, 0, 0, 0, 0x05]);
 
 /// Whether multicast is filtered, and whether the host dozes.
 type Setting = (bool, bool);
@@ -64,7 +77,7 @@ type Row = (
 );
 
 #[rattlefmt::skip]
-static ROWS: [Row; 21] = [
+static ROWS: [Row; 24] = [
     (17, 128, ALL_NODES, UNFILTERED, Pass, PassedIpv6NonIcmp, 21),
     (17, 128, HOST, UNFILTERED, Pass, PassedIpv6NonIcmp, 21),
     (6, 133, MDNS, FILTERED, Drop, DroppedIpv6Multicast, 39),
@@ -83,8 +96,11 @@ static ROWS: [Row; 21] = [
     (58, 135, MDNS, ALL, Pass, PassedIpv6Icmp, 55),
     (58, 135, HOST, ALL, Pass, PassedIpv6Icmp, 55),
     (58, 136, ALL_NODES, ALL, Drop, DroppedIpv6MulticastNa, 55),
-    (58, 136, ALL_ROUTERS, ALL, Pass, PassedIpv6Icmp, 55),
-    (58, 136, MDNS, ALL, Pass, PassedIpv6Icmp, 55),
+    (58, 136, ALL_ROUTERS, ALL, Drop, DroppedIpv6MulticastNa, 55),
+    (58, 136, MDNS, ALL, Drop, DroppedIpv6MulticastNa, 55),
+    (58, 136, SOLICITED, ALL, Pass, PassedIpv6Icmp, 55),
+    (58, 136, GREATER, ALL, Pass, PassedIpv6Icmp, 55),
+    (58, 136, SITE, ALL, Pass, PassedIpv6Icmp, 55),
     (58, 136, HOST, ALL, Pass, PassedIpv6Icmp, 55),
 ];
 
@@ -93,7 +109,7 @@ fn packet_with(next: u8, kind: u8, destination: Destination) -> [u8; 56] {
     let mut packet = PACKET;
     packet[20] = next;
     packet[38..40].copy_from_slice(&destination.0);
-    packet[53] = destination.1;
+    packet[48..54].copy_from_slice(&destination.1);
     packet[54] = kind;
     packet
 }
