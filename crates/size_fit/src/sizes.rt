@@ -2,7 +2,8 @@
 
 ghost use Rattle.std.specs.Prelude.{◌≡◌, ◌≤◌, ◌+◌, ◌*◌, length, is_some};
 ghost use Rattle.std.specs.List.{sum_by, count_by};
-ghost use Rattle.size_fit.specs.Sizes.{base, limit_of, section_weight, weight};
+ghost use Rattle.policy_state.specs.Limits.{denied_most};
+ghost use Rattle.size_fit.specs.Sizes.{base, base_for, limit_of, section_weight, weight};
 
 use apf_base::MEMORY_SIZE;
 use policy_state::{
@@ -14,7 +15,7 @@ use ra_records::{Record, Span};
 /// The bytes that a program needs without records: 600, and 9 for each denied ethertype and 80 for each keepalive.
 pub fn base(config: &Config, s: &FilterState) -> u32
     ensures value { result ≡ base config.now s.now }
-    ensures most { result ≤ 1440 }
+    ensures most { result ≤ base_for denied_most 8 }
 {
     BASE_WEIGHT + DENIED_WEIGHT * config.deny.len() as u32 + KEEPALIVE_WEIGHT * s.count_keepalives()
 }
