@@ -31,7 +31,8 @@ enum {
     X(DROPPED_ETH_BROADCAST) X(DROPPED_ARP_REPLY_SPA_NO_HOST) X(DROPPED_GARP_REPLY) X(DROPPED_ARP_OTHER_HOST) \
     X(DROPPED_IPV4_L2_BROADCAST) X(DROPPED_IPV4_BROADCAST_ADDR) X(DROPPED_IPV4_BROADCAST_NET) \
     X(DROPPED_IPV4_MULTICAST) X(DROPPED_IPV4_KEEPALIVE_ACK) X(DROPPED_IPV6_ROUTER_SOLICITATION) \
-    X(DROPPED_IPV6_MULTICAST_NA) X(DROPPED_IPV6_MULTICAST) X(DROPPED_RA)
+    X(DROPPED_IPV6_MULTICAST_NA) X(DROPPED_IPV6_MULTICAST) X(DROPPED_RA) \
+    X(DROPPED_IPV4_NATT_KEEPALIVE)
 #define COUNTER(name) name,
 #define COUNTER_NAME(name) #name,
 
@@ -598,7 +599,7 @@ static void drop(enum counter c) { will_count(c), jump(COUNT_AND_DROP); }
 
 static const uint8_t BROADCAST[6] = {0xff, 0xff, 0xff, 0xff, 0xff, 0xff};
 static const uint8_t ETHERNET_AND_IPV4[6] = {0, 1, 8, 0, 6, 4};
-static const uint8_t ALL_NODES[16] = {0xff, 2, [15] = 1};
+static const uint8_t LINK_GROUPS[15] = {0xff, 2}; /* ff02::/120 */
 
 static void ask_link(const struct config *c) {
     load(LDH, 12);
@@ -661,11 +662,24 @@ static void ask_keepalives(const struct state *s) {
     label(over);
 }
 
+/* A datagram of one byte, ff, from the port 4500. */
+static void ask_natt(void) {
+    int over = new_label();
+    load(LDB, 23), jump_if(JNE, 17, over);
+    load(LDH, 20), jump_if(JSET, 0x1fff, over);
+    header_length(1), load(LDHX, 14), jump_if(JNE, 4500, over);
+    load(LDHX, 18), jump_if(JNE, 9, over);
+    load(LDBX, 22), jump_if(JNE, 0xff, over);
+    drop(DROPPED_IPV4_NATT_KEEPALIVE);
+    label(over);
+}
+
 static void ask_ip4(const struct config *c, const struct state *s) {
     int over = new_label();
     load(LDH, 12), jump_if(JNE, 0x800, over);
     if (s->multicast) ask_dhcp(c), ask_ip4_destination(s);
     ask_keepalives(s);
+    ask_natt();
     if (s->multicast) {
         load_place(0), pass_unless(BROADCAST, 6, PASSED_IPV4_UNICAST);
         drop(DROPPED_IPV4_L2_BROADCAST);
@@ -712,7 +726,7 @@ static void ask_ip6(const struct state *s, struct record *const *records, uint32
     load(LDH, 12), jump_if(JNE, 0x86dd, over);
     ask_ip6_destination(s);
     load(LDB, 54), drop_if(JEQ, 133, DROPPED_IPV6_ROUTER_SOLICITATION), jump_if(JNE, 136, other);
-    load_place(38), will_count(DROPPED_IPV6_MULTICAST_NA), jump_unless(ALL_NODES, 16, other), jump(COUNT_AND_DROP);
+    load_place(38), will_count(DROPPED_IPV6_MULTICAST_NA), jump_unless(LINK_GROUPS, 15, other), jump(COUNT_AND_DROP);
     label(other);
     for (uint32_t i = 0; i < kept; i++) ask_record(records[i], remaining(records[i], now) / 6);
     pass(PASSED_IPV6_ICMP);
