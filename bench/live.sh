@@ -2,7 +2,7 @@
 # How fast `live` answers 100,000 made frames by 1, 2, 4, 8 and 16 lanes, beside `filter` on the same script and capture:
 # without installs, with one every 1,000 frames, and with one every 10 frames. Each advertisement of the made capture is
 # another name query here, since lanes learn from none. Where a script installs nothing, `live` is to answer each frame
-# as `filter` does. Wants Python 3, and the proved program: run ./install first, or name another build by APF_RUN. It
+# as `filter` does. At last 10,000 events stand beside one frame. Wants Python 3, and the proved program: run ./install first, or name another build by APF_RUN. It
 # takes half a minute.
 #
 # Goals, by the clock, the best of 7 runs in turn: with as many lanes as processors `live` is no slower than `filter`, for
@@ -81,5 +81,13 @@ for name, installs in {"no install": 0, "one every 1,000 frames": FRAMES // 1000
     here = max(lanes for lanes in LANES if lanes <= (os.cpu_count() or 1))
     if best[f"{here} lanes"][0] > best["filter"][0]:
         missed.append(f"{name}: {here} lanes are slower than filter")
+# Beside one frame every event of the script is installed, by any number of lanes.
+alone = write("alone", made_capture()[:24 + 16 + 42])
+for lanes in LANES:
+    seconds, processors = run(["live", script, alone, str(lanes)], "report")
+    with open(path_of("report"), encoding="ascii") as it:
+        kinds = [line.split()[0] for line in it]
+    assert kinds.count("gen") == FRAMES // 10 + 1 and kinds.count("frame") == 1, (lanes, len(kinds))
+    print(f"{FRAMES // 10:,} events beside one frame, {lanes} lanes: {seconds:.3f} s, {processors:.3f} s of processors")
 print("missed: " + "; ".join(missed) if missed else "all goals are met")
 PYTHON
