@@ -7,7 +7,6 @@ use Rattle.apf_coding.specs.declared.machine.Verdict.TheVariants.{Pass, Drop}
 use Rattle.apf_coding.specs.Words.{word}
 use Rattle.apf_coding.specs.Meaning.{State}
 use Rattle.apf_asm.specs.declared.item.Item.{Item}
-use Rattle.apf_asm.specs.declared.item.Item.TheVariants as items
 use Rattle.apf_asm.specs.declared.item.Target.TheVariants as targets
 use Rattle.apf_asm.specs.Refusals.{stands}
 use Rattle.data_counters.specs.declared.counter.Counter.{Counter}

@@ -1,7 +1,7 @@
 -- The items for NAT keepalives say what their line answers.
 use Rattle.std.proofs.Common.{◌≡◌, ℕ, ◌+◌, ◌≤◌, eqb, List, [], ◌∷◌, ◌++◌, get_or, refl, lit≤}
 use Rattle.std.specs.Prelude.{bit_and}
-use Rattle.apf_coding.specs.declared.instruction.Op.TheVariants.{Ldb, Ldh, Ldbx, Ldhx, Jne, Jset}
+use Rattle.apf_coding.specs.declared.instruction.Op.TheVariants.{Ldh, Ldbx, Ldhx, Jne, Jset}
 use Rattle.apf_coding.specs.declared.machine.Verdict.TheVariants.{Drop}
 use Rattle.apf_coding.specs.Meaning.{State}
 use Rattle.apf_asm.specs.declared.item.Item.{Item}
