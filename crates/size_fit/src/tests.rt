@@ -75,7 +75,13 @@ fn records_are_chosen(rt: HostRuntime) -> Result<(), Fail> {
         (751, Ok(Fit { kept: 0, need: 600 })),
         (752, Ok(Fit { kept: 1, need: 752 })),
         (1023, Ok(Fit { kept: 1, need: 752 })),
-        (1024, Ok(Fit { kept: 2, need: 1024 })),
+        (
+            1024,
+            Ok(Fit {
+                kept: 2,
+                need: 1024,
+            }),
+        ),
         (
             1176,
             Ok(Fit {
