@@ -138,7 +138,7 @@ module _ (basis : Basis) (h : IsBasis basis) (fits : need_of basis ≤ limit_of 
 
   -- the label of the question on IPv6
   abbrev over : ℕ
-  over = keepalives.label + 2
+  over = keepalives.label + 3
 
   abbrev ip4_list : List Item
   ip4_list = arp_list ++ ip4_items basis keepalives.label keepalives.answers
