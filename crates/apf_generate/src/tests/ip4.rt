@@ -214,7 +214,7 @@ type Row = (
 );
 
 #[rattlefmt::skip]
-static ROWS: [Row; 65] = [
+static ROWS: [Row; 45] = [
     (ON, NONE, DHCP_24, &[], Pass, PassedDhcp, 80),
     (ON, NONE, DHCP_24, &[(21, &[1])], Drop, DroppedIpv4BroadcastAddr, 34),
     (ON, NONE, DHCP_24, &[(21, &[1]), (30, &[224, 0, 0, 1])], Drop, DroppedIpv4Multicast, 31),
@@ -260,6 +260,11 @@ static ROWS: [Row; 65] = [
     (OFF, EIGHT, SEGMENT, &[(35, &[22])], Pass, PassedIpv4, 47),
     (ON, ONE, SEGMENT, &[], Drop, DroppedIpv4KeepaliveAck, 47),
     (ON, ONE, SEGMENT, &[(17, &[0x29])], Pass, PassedIpv4Unicast, 47),
+];
+
+/// The same of NAT keepalives.
+#[rattlefmt::skip]
+static NATT_ROWS: [Row; 20] = [
     (OFF, NONE, NATT, &[], Drop, DroppedIpv4NattKeepalive, 43),
     (ON, NONE, NATT, &[], Drop, DroppedIpv4NattKeepalive, 43),
     (OFF, ONE, NATT, &[], Drop, DroppedIpv4NattKeepalive, 43),
@@ -361,6 +366,14 @@ fn holds(alloc: Global, row: &Row) -> Result<bool, Fail> {
 #[test]
 fn ipv4_packets_are_answered(rt: HostRuntime) -> Result<(), Fail> {
     for (number, row) in ROWS.iter().enumerate() {
+        assert!(rt; holds(rt.alloc(), row)?, "row {number}");
+    }
+    Ok(())
+}
+
+#[test]
+fn natt_keepalives_are_answered(rt: HostRuntime) -> Result<(), Fail> {
+    for (number, row) in NATT_ROWS.iter().enumerate() {
         assert!(rt; holds(rt.alloc(), row)?, "row {number}");
     }
     Ok(())
