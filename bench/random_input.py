@@ -109,6 +109,13 @@ class Case:
         source, destination = self.random.choice(HOSTS), self.random.choice(HOSTS + GROUPS)
         return self.ip4(protocol, source, destination, self.some_bytes(self.random.choice([0, 8, 20, 60])))
 
+    def natt_keepalive(self):
+        port, length = self.random.choice([4500] * 6 + [4499, 4501]), self.random.choice([9] * 6 + [8, 10])
+        content = struct.pack(">HHHH", port, self.random.choice([4500, 5000]), length, 0)
+        content += self.random.choice([b"\xff", b"\xff", b"\xff", b"\xfe", b""])
+        fragment = self.random.choice([0, 0, 0, 0x4000, 1])
+        return self.ip4(17, self.random.choice(HOSTS), self.random.choice(HOSTS + GROUPS), content, fragment)
+
     def keepalive_answer(self):
         if not self.sent:
             return self.datagram()
@@ -125,7 +132,7 @@ class Case:
 
     def message(self):
         kind = self.random.choice([128, 129, 133, 135, 136, 136])
-        destination = self.random.choice([ALL_NODES, ALL_NODES, ALL_NODES[:-1] + b"\x02", self.some_bytes(16)])
+        destination = self.random.choice([ALL_NODES, ALL_NODES[:-1] + b"\xfb", ALL_NODES[:-2] + b"\x01\x01", self.some_bytes(16)])
         return self.ip6(58, destination, bytes([kind, 0, 0, 0]) + self.some_bytes(20))
 
     def packet6(self):
@@ -165,7 +172,7 @@ class Case:
         return self.ethernet(self.destination(), ethertype, self.some_bytes(self.random.choice([0, 1, 40])))
 
     def frame(self):
-        makers = [self.arp, self.dhcp, self.datagram, self.keepalive_answer, self.keepalive_answer, self.message,
+        makers = [self.arp, self.dhcp, self.datagram, self.natt_keepalive, self.keepalive_answer, self.keepalive_answer, self.message,
                   self.packet6, self.known_advertisement, self.known_advertisement, self.known_advertisement, self.other]
         frame = bytearray(self.random.choice(makers)())
         if self.chance(0.1):
