@@ -1,7 +1,7 @@
 pub mod Rightness
 pub mod Answering
-pub mod Marking
-pub mod Judging
+pub mod Marked
+pub mod Search
 pub mod Meanings
 pub mod Ending
 pub mod Checked

@@ -7,7 +7,9 @@
 
 mod checking;
 mod flaw;
+mod judging;
 mod laws;
+mod marking;
 mod sharing;
 #[cfg(test)]
 mod tests;

@@ -1,7 +1,7 @@
 -- The instructions so far stand up to the present place, and their places are marked.
 use Rattle.std.proofs.Common.{◌≡◌, ◌≤◌, ◌-◌, length}
-use Rattle.apf_check.proofs.Marking.{MarkedTo}
-use Rattle.apf_check.proofs.checking.mark.Given as goal
+use Rattle.apf_check.proofs.Marked.{MarkedTo}
+use Rattle.apf_check.proofs.marking.mark.Given as goal
 
 abbrev pub invariant-loop-end : goal.invariant-loop-end
 invariant-loop-end l = record {

@@ -1,8 +1,8 @@
 -- One instruction after another.
 use Rattle.apf_coding.specs.Instruction.{view}
 use Rattle.apf_check.specs.Marks.{is_marked}
-use Rattle.apf_check.proofs.Judging.{found_flaw, found_none, found_end}
-use Rattle.apf_check.proofs.checking.first_flaw.Goals as goal
+use Rattle.apf_check.proofs.Search.{found_flaw, found_none, found_end}
+use Rattle.apf_check.proofs.judging.first_flaw.Goals as goal
 
 pub returns-in-Some-flaw_of : goal.returns-in-Some-flaw_of
 returns-in-Some-flaw_of c parts s =

@@ -1,8 +1,8 @@
 -- One more instruction stands, and its place is marked.
 use Rattle.std.proofs.Common.{arith, rules}
 use Rattle.apf_coding.specs.Instruction.{view}
-use Rattle.apf_check.proofs.Marking.{one_more}
-use Rattle.apf_check.proofs.checking.mark.Goals as goal
+use Rattle.apf_check.proofs.Marked.{one_more}
+use Rattle.apf_check.proofs.marking.mark.Goals as goal
 
 pub loop-end-preserved : goal.loop-end-preserved
 loop-end-preserved c =

@@ -2,8 +2,8 @@
 use Rattle.std.proofs.Common.{◌≤◌, ◌-◌, List, length}
 use Rattle.apf_check.specs.Orderly.{Part, Stand}
 use Rattle.apf_check.specs.Marks.{is_marked}
-use Rattle.apf_check.proofs.Judging.{Left}
-use Rattle.apf_check.proofs.checking.first_flaw.Given as goal
+use Rattle.apf_check.proofs.Search.{Left}
+use Rattle.apf_check.proofs.judging.first_flaw.Given as goal
 
 abbrev pub invariant-loop-instr : goal.invariant-loop-instr
 invariant-loop-instr l = record {
