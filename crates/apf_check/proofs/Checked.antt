@@ -1,9 +1,9 @@
 -- What was found answers for the program.
-use Rattle.std.proofs.Common.{◌≡◌, ℕ, List, length, Some, None, refl, sym, ap, ◌∙◌, inl, inr}
+use Rattle.std.proofs.Common.{◌≡◌, ℕ, List, length, Some, None, sym, ap, ◌∙◌, inr}
 use Rattle.std.specs.Prelude.{Result, Ok, Err, IfOk, IfErr}
 use Rattle.apf_coding.specs.Run.{run}
 use Rattle.apf_check.specs.declared.flaw.Flaw.{Flaw}
-use Rattle.apf_check.specs.Orderly.{Part, Stand, first_flaw, IsOrderly, IsFirstFlaw}
+use Rattle.apf_check.specs.Orderly.{first_flaw, IsOrderly, IsFirstFlaw}
 use Rattle.apf_check.specs.Marks.{is_marked, AreMarked}
 use Rattle.apf_check.specs.Ends.{EndsWithin}
 use Rattle.apf_check.proofs.Rightness.{first_flaw-same}

@@ -1,6 +1,7 @@
 -- The code of items with labels is orderly.
 use Rattle.std.proofs.Common.{◌≡◌, ℕ, suc, ◌+◌, ◌-◌, ◌^◌, ◌<◌, ◌≤◌, Bool, true, false, cond, eqb, ltb, List, [], ◌∷◌, ◌++◌, length, take, drop, Some, None, refl, sym, ap, ◌∙◌, append_assoc, arith, inl, inr}
 use Rattle.std.specs.Prelude.{All, slice_range, count_by, not, ◌&&◌, ◌||◌, ◌==◌, nat_lt}
+use Rattle.std.proofs.Math.Bool.{or-true}
 use Rattle.std.proofs.lemmas.Bool.{ltb-false, le-ltb, cases_lt, eq-eqb, ne_eqb}
 use Rattle.std.proofs.lemmas.List.{append-nil, take_at, drop_at, length-append}
 use Rattle.std.proofs.lemmas.List.Elements.{All-head, All-tail}
@@ -154,11 +155,7 @@ module _ (program : List ℕ) where
       let same : at + (s + total_before l rest ws) ≡ end + total_before l rest ws = omega arith in
       let behind = ap (is_place more.parts) same ∙ more.labels l there (omega arith) in
       let q : ℕ = at + (s + total_before l rest ws) in
-      ap (λ (b : Bool). (p.place == q) || b) behind ∙ or_true (p.place == q)
-    where
-      or_true : (a : Bool) → (a || true) ≡ true
-      or_true true = refl
-      or_true false = refl
+      ap (λ (b : Bool). (p.place == q) || b) behind ∙ or-true (p.place == q)
 
   -- an instruction before them
   laid_op : (item : Item) (w : ℕ) (rest : List Item) (ws : List ℕ) (i : Instruction) (at : ℕ) (more : Laid rest ws (at + length (spelling i))) → Begins program at i (at + length (spelling i)) → size item w ≡ length (spelling i)
@@ -172,16 +169,12 @@ module _ (program : List ℕ) where
         parts = p ∷ more.parts;
         stand = (refl, begun_there, more.stand);
         right = λ begins all.
-            let later : (k : ℕ) → is_place more.parts k ≡ true → begins k ≡ true = λ k is. all k (ap (λ (b : Bool). (at == k) || b) is ∙ or_true (at == k)) in
+            let later : (k : ℕ) → is_place more.parts k ≡ true → begins k ≡ true = λ k is. all k (ap (λ (b : Bool). (at == k) || b) is ∙ or-true (at == k)) in
             rw (fine begins later) (more.right begins later);
         labels = λ l there lt. passed (marks l item) l (size item w) rest ws at (at + length (spelling i)) p more (no_label l) (ap (λ (n : ℕ). at + n) (sym size_is)) there lt;
         many = counted (is_instruction item) (length more.parts) (count_by is_instruction rest) spelled more.many ∙ sym (sum_by-cons one item rest);
       }
     where
-      or_true : (a : Bool) → (a || true) ≡ true
-      or_true true = refl
-      or_true false = refl
-
       one : Item → ℕ
       one x = cond (is_instruction x) 1 0
 

@@ -1,6 +1,7 @@
 -- The marks of a program's instructions, one after another.
-use Rattle.std.proofs.Common.{◌≡◌, ℕ, ◌+◌, ◌<◌, ◌≤◌, Bool, true, false, eqb, List, [], ◌∷◌, ◌++◌, length, get_or, set, replicate, Option, Some, None, refl, sym, ap, subst, ◌∙◌, arith, inl, inr}
+use Rattle.std.proofs.Common.{◌≡◌, ℕ, ◌+◌, ◌<◌, Bool, true, false, eqb, List, [], ◌∷◌, ◌++◌, length, get_or, set, replicate, None, refl, sym, ap, subst, ◌∙◌, arith, inl, inr}
 use Rattle.std.specs.Prelude.{not, ◌||◌, ◌==◌, slice_index}
+use Rattle.std.proofs.Math.Bool.{or-true, or-false, or_assoc}
 use Rattle.std.proofs.lemmas.Bool.{eq-eqb, ne_eqb, cases_eq, cases_lt}
 use Rattle.std.proofs.lemmas.List.{get_or-replicate, get_or-set_same, get_or-set_other, get_or_past, length-append, length-replicate}
 use Rattle.apf_coding.specs.Instruction.{Instruction}
@@ -42,30 +43,18 @@ stand_one_more program (q ∷ parts) at to p s b e = (s.0, s.1, stand_one_more p
 
 is_place-append : (parts more : List Part) (k : ℕ) → is_place (parts ++ more) k ≡ (is_place parts k || is_place more k)
 is_place-append [] more k = refl
-is_place-append (p ∷ parts) more k = rw (is_place-append parts more k) (or_assoc (eqb p.place k) (is_place parts k) (is_place more k))
-  where
-    or_assoc : (a b c : Bool) → (a || (b || c)) ≡ ((a || b) || c)
-    or_assoc true b c = refl
-    or_assoc false b c = refl
-
-or_false : (a : Bool) → (a || false) ≡ a
-or_false true = refl
-or_false false = refl
-
-or_true : (a : Bool) → (a || true) ≡ true
-or_true true = refl
-or_true false = refl
+is_place-append (p ∷ parts) more k = rw (is_place-append parts more k) (sym (or_assoc (eqb p.place k) (is_place parts k) (is_place more k)))
 
 marked_one_more : (marks : List ℕ) (parts : List Part) (p : Part) (k : ℕ) → p.place < length marks → ((j : ℕ) → is_marked marks j ≡ is_place parts j) → is_marked (set marks p.place 1) k ≡ is_place (parts ++ p ∷ []) k
 marked_one_more marks parts p k inside so_far = elim (cases_eq k p.place) [
   | inl e ↦
       let here : eqb p.place k ≡ true = eq-eqb _ _ (sym e) in
       let told : get_or (set marks p.place 1) k 0 ≡ 1 = ap (λ (j : ℕ). get_or (set marks p.place 1) j 0) e ∙ get_or-set_same marks p.place 1 0 inside in
-      ap (λ (x : ℕ). not (x == 0)) told ∙ sym (is_place-append parts (p ∷ []) k ∙ ap (λ (b : Bool). is_place parts k || (b || false)) here ∙ or_true (is_place parts k))
+      ap (λ (x : ℕ). not (x == 0)) told ∙ sym (is_place-append parts (p ∷ []) k ∙ ap (λ (b : Bool). is_place parts k || (b || false)) here ∙ or-true (is_place parts k))
   | inr ne ↦
       let here : eqb p.place k ≡ false = ne_eqb _ _ (λ e. ne (sym e)) in
       let told : get_or (set marks p.place 1) k 0 ≡ get_or marks k 0 = get_or-set_other marks p.place k 1 0 ne in
-      ap (λ (x : ℕ). not (x == 0)) told ∙ so_far k ∙ sym (is_place-append parts (p ∷ []) k ∙ ap (λ (b : Bool). is_place parts k || (b || false)) here ∙ or_false (is_place parts k))
+      ap (λ (x : ℕ). not (x == 0)) told ∙ so_far k ∙ sym (is_place-append parts (p ∷ []) k ∙ ap (λ (b : Bool). is_place parts k || (b || false)) here ∙ or-false (is_place parts k))
 ]
 
 pub one_more : (program marks : List ℕ) (count at end : ℕ) (i : Instruction) → at < length marks → Begins program at i end → MarkedTo program count at marks → MarkedTo program (count + 1) end (set marks at 1)

@@ -1,12 +1,10 @@
 -- The first flaw, one instruction after another.
-use Rattle.std.proofs.Common.{◌≡◌, ℕ, ◌+◌, ◌<◌, ◌≤◌, Bool, true, false, cond, List, [], ◌∷◌, length, Option, Some, None, refl, sym, ap, subst, ◌∙◌, arith}
+use Rattle.std.proofs.Common.{◌≡◌, ℕ, ◌+◌, Bool, true, false, cond, List, [], ◌∷◌, Option, Some, None, refl}
 use Rattle.std.specs.Prelude.{not, ◌&&◌, nat_lt}
-use Rattle.apf_coding.specs.Instruction.{Instruction}
-use Rattle.apf_coding.specs.Spelling.{Begins}
 use Rattle.apf_coding.specs.Jumps.{is_jump}
 use Rattle.apf_check.specs.declared.flaw.Flaw.{Flaw}
 use Rattle.apf_check.specs.declared.flaw.Flaw.TheVariants.{Extended, Compare, Past, Backward, Inside}
-use Rattle.apf_check.specs.Orderly.{Part, Stand, is_unknown_ext, is_faulty_compare, target, jump_flaw, flaw_of, first_flaw, or_else}
+use Rattle.apf_check.specs.Orderly.{Part, is_unknown_ext, is_faulty_compare, target, flaw_of, first_flaw, or_else}
 
 -- ---- an instruction with no flaw
 

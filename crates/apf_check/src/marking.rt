@@ -28,7 +28,6 @@ pub(crate) fn mark(code: &[u8], marks: &mut [u8]) -> Result<u32, Flaw>
     requires size { length marks.old ≡ length code.now }
     ensures marked { IfOk result (λ count. AreMarked code.now count marks.new) }
     ensures broken { IfErr result (λ flaw. IsBroken code.now flaw) }
-    ensures size { length marks.new ≡ length code.now }
 {
     marks.fill(0);
     let mut count = 0;
