@@ -1,6 +1,6 @@
 -- Each program has one answer.
 use Rattle.std.proofs.Common.{◌≡◌, ℕ, zero, suc, ◌-◌, ◌<◌, ◌≤◌, List, [], ◌∷◌, length, Option, Some, None, refl, sym, ap, subst, ◌∙◌, arith, inl, inr}
-use Rattle.std.specs.Prelude.{◌⊎◌}
+use Rattle.std.specs.Prelude.{Result, Ok, Err}
 use Rattle.std.proofs.lemmas.Bool.{cases_lt}
 use Rattle.std.proofs.lemmas.Option.{some_pair_parts}
 use Rattle.apf_coding.specs.Instruction.{Instruction}
@@ -9,7 +9,7 @@ use Rattle.apf_coding.specs.Reading.{instruction_at, cause_at}
 use Rattle.apf_coding.specs.Words.{AreBytes}
 use Rattle.apf_coding.proofs.Spelling.{instruction_at-begins, begins-instruction_at}
 use Rattle.apf_check.specs.declared.flaw.Flaw.{Flaw}
-use Rattle.apf_check.specs.Orderly.{Part, Stand, is_place, first_flaw, broken, IsOrderly, IsFirstFlaw}
+use Rattle.apf_check.specs.Orderly.{Part, Stand, is_place, first_flaw, broken, IsOrderly, IsFirstFlaw, IsAnswer}
 
 -- ---- one list of instructions
 
@@ -27,6 +27,9 @@ pub same_first : (program : List ℕ) (at : ℕ) (p q : Part) → p.place ≡ at
 same_first program at p q e f b d =
     let same = some_pair_parts p.instruction q.instruction p.end q.end (sym (begins-instruction_at program at p.instruction p.end b) ∙ begins-instruction_at program at q.instruction q.end d) in
     same_part p q (e ∙ sym f) same.0 same.1
+
+pub none_begins : (program : List ℕ) (at : ℕ) → instruction_at program at ≡ None → (i : Instruction) (end : ℕ) → Begins program at i end → ⊥
+none_begins program at e i end b = let begins = begins-instruction_at program at i end b in absurd cc
 
 -- where nothing begins at either end, they are the same
 same_parts : (program : List ℕ) (at : ℕ) (a b : List Part) (to end : ℕ) → ((i : Instruction) (e : ℕ) → Begins program to i e → ⊥) → ((i : Instruction) (e : ℕ) → Begins program end i e → ⊥)
@@ -53,7 +56,7 @@ no_fill program a b at inside nothing s t = let same = (same_parts program 0 a b
 
 -- ---- one answer
 
-pub one_count : (program : List ℕ) (first second : ℕ) → IsOrderly program first → IsOrderly program second → first ≡ second
+one_count : (program : List ℕ) (first second : ℕ) → IsOrderly program first → IsOrderly program second → first ≡ second
 one_count program first second o p = sym o.many ∙ ap length (same_fill program o.parts p.parts o.fill p.fill) ∙ p.many
 
 some_flaw : (f g : Flaw) (x y : Option Flaw) → x ≡ y → x ≡ Some f → y ≡ Some g → f ≡ g
@@ -62,7 +65,7 @@ some_flaw f g x y e p q = cc
 no_some : (f : Flaw) (x y : Option Flaw) → x ≡ y → x ≡ None → y ≡ Some f → ⊥
 no_some f x y e p q = absurd cc
 
-pub one_flaw : (program : List ℕ) (first second : Flaw) → IsFirstFlaw program first → IsFirstFlaw program second → first ≡ second
+one_flaw : (program : List ℕ) (first second : Flaw) → IsFirstFlaw program first → IsFirstFlaw program second → first ≡ second
 one_flaw program first second (inl a) (inl b) =
     let same = (same_parts program 0 a.parts b.parts a.at b.at a.nothing b.nothing a.stand b.stand).1 in
     a.says ∙ ap (λ (k : ℕ). broken (cause_at program k) k) same ∙ sym b.says
@@ -71,9 +74,15 @@ one_flaw program first second (inr a) (inl b) = absurd (no_fill program a.parts 
 one_flaw program first second (inr a) (inr b) =
     some_flaw first second _ _ (ap (λ (l : List Part). first_flaw (length program) (is_place l) l) (same_fill program a.parts b.parts a.fill b.fill)) a.wrong b.wrong
 
-pub no_both : (program : List ℕ) (count : ℕ) (flaw : Flaw) → IsOrderly program count → IsFirstFlaw program flaw → ⊥
+no_both : (program : List ℕ) (count : ℕ) (flaw : Flaw) → IsOrderly program count → IsFirstFlaw program flaw → ⊥
 no_both program count flaw o (inl b) = no_fill program o.parts b.parts b.at b.inside b.nothing o.fill b.stand
 no_both program count flaw o (inr w) = no_some flaw _ _ (ap (λ (l : List Part). first_flaw (length program) (is_place l) l) (same_fill program o.parts w.parts o.fill w.fill)) o.right w.wrong
+
+pub one_answer : (program : List ℕ) (first second : Result ℕ Flaw) → IsAnswer program first → IsAnswer program second → first ≡ second
+one_answer program (Ok a) (Ok b) p q = ap (λ (n : ℕ). Ok n) (one_count program a b p q)
+one_answer program (Ok a) (Err g) p q = absurd (no_both program a g p q)
+one_answer program (Err f) (Ok b) p q = absurd (no_both program b f q p)
+one_answer program (Err f) (Err g) p q = ap (λ (x : Flaw). Err x) (one_flaw program f g p q)
 
 -- ---- some answer
 
@@ -84,9 +93,6 @@ record Stops (program : List ℕ) (at : ℕ) : Type 0 where
   pub stand : Stand program at parts to
   pub within : to ≤ length program
   pub nothing : (i : Instruction) (end : ℕ) → Begins program to i end → ⊥
-
-none_begins : (program : List ℕ) (at : ℕ) → instruction_at program at ≡ None → (i : Instruction) (end : ℕ) → Begins program at i end → ⊥
-none_begins program at e i end b = let begins = begins-instruction_at program at i end b in absurd cc
 
 more_stands : (program : List ℕ) (at : ℕ) (o : Option (Instruction × ℕ)) → AreBytes program → at ≤ length program → instruction_at program at ≡ o → ((next : ℕ) → at < next → next ≤ length program → Stops program next) → Stops program at
 more_stands program at (Some x) fits within e more =
@@ -100,15 +106,15 @@ stops_from : (fuel : ℕ) (program : List ℕ) (at : ℕ) → AreBytes program �
 stops_from zero program at fits within left = record { parts = []; to = at; stand = refl; within = within; nothing = λ i end b. past_end program at i end (omega arith) b }
 stops_from (suc fuel) program at fits within left = more_stands program at (instruction_at program at) fits within refl (λ next later inside. stops_from fuel program next fits inside (omega arith))
 
-judged : (program : List ℕ) (parts : List Part) (o : Option Flaw) → Stand program 0 parts (length program) → first_flaw (length program) (is_place parts) parts ≡ o → ((count : ℕ) × IsOrderly program count) ⊎ ((flaw : Flaw) × IsFirstFlaw program flaw)
-judged program parts None s e = inl (length parts, record { parts = parts; fill = s; many = refl; right = e })
-judged program parts (Some flaw) s e = inr (flaw, inr (record { parts = parts; fill = s; wrong = e }))
+judged : (program : List ℕ) (parts : List Part) (o : Option Flaw) → Stand program 0 parts (length program) → first_flaw (length program) (is_place parts) parts ≡ o → (answer : Result ℕ Flaw) × IsAnswer program answer
+judged program parts None s e = (Ok (length parts), record { parts = parts; fill = s; many = refl; right = e })
+judged program parts (Some flaw) s e = (Err flaw, inr (record { parts = parts; fill = s; wrong = e }))
 
-pub some_answer : (program : List ℕ) → AreBytes program → ((count : ℕ) × IsOrderly program count) ⊎ ((flaw : Flaw) × IsFirstFlaw program flaw)
+pub some_answer : (program : List ℕ) → AreBytes program → (answer : Result ℕ Flaw) × IsAnswer program answer
 some_answer program fits =
     let s = stops_from (length program) program 0 fits (omega arith) (omega arith) in
     let within = s.within in
     elim (cases_lt s.to (length program)) [
-      | inl inside ↦ inr (broken (cause_at program s.to) s.to, inl (record { at = s.to; parts = s.parts; stand = s.stand; inside = inside; nothing = s.nothing; says = refl }))
+      | inl inside ↦ (Err (broken (cause_at program s.to) s.to), inl (record { at = s.to; parts = s.parts; stand = s.stand; inside = inside; nothing = s.nothing; says = refl }))
       | inr end ↦ judged program s.parts (first_flaw (length program) (is_place s.parts) s.parts) (subst (λ (k : ℕ). Stand program 0 s.parts k) (omega arith) s.stand) refl
     ]

@@ -7,10 +7,10 @@ use Rattle.std.proofs.lemmas.List.{get_or-replicate, get_or-set_same, get_or-set
 use Rattle.apf_coding.specs.Instruction.{Instruction}
 use Rattle.apf_coding.specs.Spelling.{Begins}
 use Rattle.apf_coding.specs.Reading.{instruction_at, cause_at}
-use Rattle.apf_coding.proofs.Spelling.{begins-instruction_at}
 use Rattle.apf_check.specs.declared.flaw.Flaw.{Flaw}
 use Rattle.apf_check.specs.Orderly.{Part, Stand, is_place, broken, IsBroken}
 use Rattle.apf_check.specs.Marks.{is_marked, AreMarked}
+use Rattle.apf_check.proofs.Answering.{none_begins}
 
 -- instructions stand up to a place, there are so many, and their places are marked
 pub record MarkedTo (program : List ℕ) (count at : ℕ) (marks : List ℕ) : Type 0 where
@@ -69,9 +69,6 @@ one_more program marks count at end i inside b m =
     }
 
 -- ---- no more
-
-pub none_begins : (program : List ℕ) (at : ℕ) → instruction_at program at ≡ None → (i : Instruction) (end : ℕ) → Begins program at i end → ⊥
-none_begins program at e i end b = let begins = begins-instruction_at program at i end b in absurd cc
 
 pub stopped_short : (program marks : List ℕ) (count at : ℕ) (flaw : Flaw) → MarkedTo program count at marks → at < length program → instruction_at program at ≡ None → flaw ≡ broken (cause_at program at) at → IsBroken program flaw
 stopped_short program marks count at flaw m inside nothing says = record { at = at; parts = m.parts; stand = m.stand; inside = inside; nothing = none_begins program at nothing; says = says }

@@ -1,5 +1,5 @@
 -- The first flaw, one instruction after another.
-use Rattle.std.proofs.Common.{◌≡◌, ℕ, ◌+◌, Bool, true, false, cond, List, [], ◌∷◌, Option, Some, None, refl}
+use Rattle.std.proofs.Common.{◌≡◌, ℕ, ◌+◌, Bool, true, false, cond, List, ◌∷◌, Option, Some, None, refl}
 use Rattle.std.specs.Prelude.{not, ◌&&◌, nat_lt}
 use Rattle.apf_coding.specs.Jumps.{is_jump}
 use Rattle.apf_check.specs.declared.flaw.Flaw.{Flaw}
@@ -42,14 +42,3 @@ unfolding first_flaw
 no_flaws n begins p rest h =
     let both = none_first (flaw_of n begins p) (first_flaw n begins rest) h in
     (no_flaw n begins p both.0, both.1)
-
--- ---- the same places
-
-flaw_of-same : (n : ℕ) (begins others : ℕ → Bool) (p : Part) → ((k : ℕ) → begins k ≡ others k) → flaw_of n begins p ≡ flaw_of n others p
-unfolding flaw_of
-flaw_of-same n begins others p same = rw (same (target p)) refl
-
-pub first_flaw-same : (n : ℕ) (begins others : ℕ → Bool) (parts : List Part) → ((k : ℕ) → begins k ≡ others k) → first_flaw n begins parts ≡ first_flaw n others parts
-unfolding first_flaw
-first_flaw-same n begins others [] same = refl
-first_flaw-same n begins others (p ∷ rest) same = rw (flaw_of-same n begins others p same, first_flaw-same n begins others rest same) refl

@@ -5,8 +5,7 @@ use Rattle.apf_coding.specs.Spelling.{Begins}
 use Rattle.apf_coding.specs.Reading.{instruction_at}
 use Rattle.apf_check.specs.declared.flaw.Flaw.{Flaw}
 use Rattle.apf_check.specs.Orderly.{Part, Stand, flaw_of, first_flaw, or_else}
-use Rattle.apf_check.proofs.Answering.{past_end, same_first}
-use Rattle.apf_check.proofs.Marked.{none_begins}
+use Rattle.apf_check.proofs.Answering.{past_end, same_first, none_begins}
 
 module _ (program : List ℕ) (begins : ℕ → Bool) where
   -- instructions stand from a place to the end, and the first flaw of them is that of all

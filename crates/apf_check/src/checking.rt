@@ -54,7 +54,7 @@ pub fn check_with(code: &[u8], marks: &mut [u8]) -> Result<u32, Flaw>
 /// A run of a program that passes takes at most as many steps as are answered, over every memory, frame and age. It
 /// never ends by its budget, and a fault is of the kind `Frame`, `Memory` or `Division`.
 ///
-/// It takes a byte of memory for each place of the program, and time that grows with the program's length alone.
+/// It takes a byte of memory for each place of the program and goes over the program twice.
 pub fn check(alloc: Global, code: &[u8]) -> Result<u32, CheckError>
     requires { length code.now ≤ program_limit }
     // A number comes exactly where the program is orderly, and is that of its instructions, but for want of memory.

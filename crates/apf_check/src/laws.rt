@@ -1,26 +1,22 @@
 //! Laws over the definitions, each the contract of an empty function.
 
-ghost use Rattle.std.specs.Prelude.{◌≡◌, ◌<◌, ◌⊎◌, ℕ, List, slice_index, All, None, count_by};
+ghost use Rattle.std.specs.Prelude.{◌≡◌, ◌<◌, ℕ, List, Result, slice_index, All, None, count_by};
 ghost use Rattle.apf_coding.specs.Run.{run};
 ghost use Rattle.apf_asm.specs.declared.item.Item.{Item};
 ghost use Rattle.apf_asm.specs.Items.{IsItemForm, IsLabelForm};
 ghost use Rattle.apf_asm.specs.Layout.{layout};
 ghost use Rattle.apf_asm.specs.Refusals.{answer};
 ghost use Rattle.apf_check.specs.declared.flaw.Flaw.{Flaw};
-ghost use Rattle.apf_check.specs.Orderly.{IsOrderly, IsFirstFlaw};
+ghost use Rattle.apf_check.specs.Orderly.{IsOrderly, IsAnswer};
 ghost use Rattle.apf_check.specs.Assembled.{HasKnownExt, is_instruction};
 ghost use Rattle.apf_check.specs.Ends.{EndsWithin};
 
-/// A program is orderly with one number of instructions, or has one first flaw, and never both.
+/// A program is orderly with one number of instructions, or it has one first flaw, and never both.
 pub fn programs_have_one_answer()
     ensures some { (program : List ℕ) → ((k : ℕ) → slice_index program k < 256) →
-        ((count : ℕ) × IsOrderly program count) ⊎ ((flaw : Flaw) × IsFirstFlaw program flaw) }
-    ensures counts { (program : List ℕ) (first second : ℕ) →
-        IsOrderly program first → IsOrderly program second → first ≡ second }
-    ensures flaws { (program : List ℕ) (first second : Flaw) →
-        IsFirstFlaw program first → IsFirstFlaw program second → first ≡ second }
-    ensures apart { (program : List ℕ) (count : ℕ) (flaw : Flaw) →
-        IsOrderly program count → IsFirstFlaw program flaw → ⊥ }
+        (answer : Result ℕ Flaw) × IsAnswer program answer }
+    ensures one { (program : List ℕ) (first second : Result ℕ Flaw) →
+        IsAnswer program first → IsAnswer program second → first ≡ second }
 {}
 
 /// A run of an orderly program takes at most as many steps as it has instructions, never ends by its budget, and has
